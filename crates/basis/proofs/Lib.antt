@@ -1,0 +1,3 @@
+pub mod Rooms
+pub mod Tabs
+pub mod OneAnswer

@@ -1,0 +1,33 @@
+-- Words that every crate's definitions share: a choice by a test, a name's bytes, a list by its rule, a text over the front
+-- of a room. They say nothing of tokens.
+use mathlib.Core.Path.{_≡_}
+use mathlib.Core.Bool.{Bool, true, false}
+use mathlib.Core.List.{List, [], _∷_, _++_}
+use Prim.Native.Nat.{ℕ, zero, suc}
+use Prim.Native.Char.{code}
+use Prim.Native.String.{String, [] as none, _∷_ as _then_}
+use lib.ListN.{length, drop}
+use lib.Dec.{leb}
+
+abbrev pub pick : {A : Type 0} → Bool → A → A → A
+pick true a b = a
+pick false a b = b
+
+-- the bytes of a name in ASCII
+abbrev pub ascii : String → List ℕ
+ascii none = []
+ascii (c then s) = code c ∷ ascii s
+
+-- f 0, f 1, .., f (n - 1)
+unfoldable pub tab : ℕ → (ℕ → ℕ) → List ℕ
+tab zero f = []
+tab (suc n) f = tab n f ++ (f n ∷ [])
+
+-- a text over the front of a room, the rest of which stays
+abbrev pub over : List ℕ → List ℕ → List ℕ
+over text room = text ++ drop (length text) room
+
+-- a text is written where the room holds it, with its length as the count; otherwise nothing is, and the count is 0
+pub record Written (text entry : List ℕ) (count : ℕ) (exit : List ℕ) : Type 0 where
+  pub counted : count ≡ pick (leb (length text) (length entry)) (length text) 0
+  pub content : exit ≡ pick (leb (length text) (length entry)) (over text entry) entry

@@ -1,0 +1,22 @@
+// What every crate needs of bytes and lent room, and the words that the definitions share.
+ghost use mathlib.Core.Path.{_≡_};
+ghost use Prim.Native.Nat.{min};
+ghost use Rattle.basis.specs.Basis.{Written};
+
+// The smaller of two counts.
+pub fn least(a: usize, b: usize) -> usize
+    ensures { λ r. ⌜ r ≡ min a b ⌝ }
+{
+    if a < b { a } else { b }
+}
+
+// Writes a text at the front of the room and says its length, or writes nothing and says 0 where the
+// room is too short.
+pub fn put(text: &[u8], room: &mut [u8]) -> usize
+    ensures { λ r. ⌜ Written (now (text .entry)) (now (room .entry)) r (now (room .exit)) ⌝ }
+{
+    if room.len() < text.len() {
+        return 0;
+    }
+    bytes::copy(text, room)
+}

@@ -1,0 +1,5 @@
+pub mod Blocks
+pub mod Spreading
+pub mod Halves
+pub mod Hashing
+pub mod OneAnswer

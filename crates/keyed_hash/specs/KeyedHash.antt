@@ -1,0 +1,46 @@
+-- The keyed hash that the token work knows, and what it may know of it. `keyedHash` is shut: a crate above has this file's
+-- laws and the functions' promises, and nothing of how the hash is made.
+use mathlib.Core.Path.{_≡_, refl, ap, _∙_}
+use mathlib.Core.List.{List, _++_}
+use Prim.Native.Nat.{ℕ, _<_, _/_, _%_, _^_}
+use native.Mathlib.Omega.{arith}
+use lib.Dec.{eqb, ltb}
+use lib.ListN.{length, take, drop, getD, replicate, take-append-drop}
+use Rattle.basis.specs.Basis.{pick, tab}
+use Rattle.basis.specs.Tabs.{tab-length, tab-below}
+use Rattle.answers.specs.Answers.{numberOf}
+use Rattle.answers.specs.declared.Answer.the-variants.{Allow, HashBad}
+use Rattle.keyed_hash.specs.declared.Hashed.{Hashed}
+use Rattle.keyed_hash.specs.Tree.{rootFlag, wordsOf, bytesOf, treeOf}
+
+-- BLAKE3 in keyed mode, 32 bytes out, of a message of any length: n bytes are never more than 2^n chunks
+pub keyedHash : List ℕ → List ℕ → List ℕ
+keyedHash key message = bytesOf (treeOf (wordsOf 8 key) (length message) message 0 rootFlag)
+
+-- what the hash is, for this crate's own proofs
+pub hash-is : (key message : List ℕ)
+    → keyedHash key message ≡ bytesOf (treeOf (wordsOf 8 key) (length message) message 0 rootFlag)
+unfolding keyedHash
+hash-is key message = refl
+
+-- 01: "A longer one, or a key that is not 32 bytes, is answered 37 and, by value, 32 zero bytes."
+unfoldable pub refusedHash : Hashed
+refusedHash = record { answer = numberOf HashBad; bytes = replicate 32 0 }
+
+-- 01: "Messages up to 8,192 bytes are taken."
+unfoldable pub hashedOf : List ℕ → List ℕ → Hashed
+hashedOf key message =
+    pick (eqb (length key) 32)
+    (pick (ltb 8192 (length message)) refusedHash (record { answer = numberOf Allow; bytes = keyedHash key message }))
+    refusedHash
+
+-- a hash is 32 bytes
+pub hash-length : (key message : List ℕ) → length (keyedHash key message) ≡ 32
+hash-length key message = ap length (hash-is key message) ∙ tab-length 32 _
+
+pub hash-bytes : (key message : List ℕ) (i : ℕ) → getD (keyedHash key message) i 0 < 256
+hash-bytes key message i = rw (hash-is key message) (tab-below 256 (omega arith) 32 _ (λ i. omega arith) i)
+
+-- a message cut in two anywhere has the hash of the whole
+pub cut-anywhere : (key message : List ℕ) (n : ℕ) → hashedOf key (take n message ++ drop n message) ≡ hashedOf key message
+cut-anywhere key message n = ap (hashedOf key) (take-append-drop n message)

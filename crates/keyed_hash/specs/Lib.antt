@@ -1,0 +1,3 @@
+pub mod Tree
+pub mod KeyedHash
+pub mod Fits
