@@ -1,2 +1,3 @@
 pub mod Distinct
 pub mod Named
+pub mod OneAnswer

@@ -1,16 +1,37 @@
+//! Runs one of the hashes on a message of LENGTH bytes, TIMES times: `bench HASH LENGTH TIMES`.
+//! tools/bench counts the instructions of two such runs; their difference is that of the calls alone.
+
 use std::hint::black_box;
+use std::time::Instant;
+
+type Hash = fn(&[u8; 32], &[u8]) -> [u8; 32];
+
+fn proved(key: &[u8; 32], message: &[u8]) -> [u8; 32] {
+    archive::keyed_hash(key, message).bytes
+}
+
+fn official(key: &[u8; 32], message: &[u8]) -> [u8; 32] {
+    *blake3::keyed_hash(key, message).as_bytes()
+}
+
 fn main() {
     let args: Vec<String> = std::env::args().collect();
-    let n: usize = args[2].parse().unwrap();
-    let times: usize = args[3].parse().unwrap();
-    let key: [u8; 32] = *b"whats the Elvish word for friend";
-    let mut m: Vec<u8> = (0..n).map(|i| (i % 251) as u8).collect();
+    let [_, name, length, times] = args.as_slice() else {
+        panic!("usage: bench proved|plain|official LENGTH TIMES");
+    };
+    let hash: Hash = match name.as_str() {
+        "proved" => proved,
+        "plain" => plain::keyed_hash,
+        "official" => official,
+        other => panic!("no hash is called {other}"),
+    };
+    let length: usize = length.parse().expect("LENGTH is a number");
+    let times: usize = times.parse().expect("TIMES is a number");
+    let key = *b"whats the Elvish word for friend";
+    let message: Vec<u8> = (0..length).map(|i| (i % 251) as u8).collect();
+    let start = Instant::now();
     for _ in 0..times {
-        let out = match args[1].as_str() {
-            "plain" => plain::keyed_hash(&key, black_box(&m)),
-            _ => *blake3::keyed_hash(&key, black_box(&m)).as_bytes(),
-        };
-        m[0] = black_box(out)[0];
+        black_box(hash(black_box(&key), black_box(&message)));
     }
-    println!("{}", m[0]);
+    println!("{}", start.elapsed().as_nanos());
 }

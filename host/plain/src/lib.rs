@@ -85,8 +85,8 @@ fn tree(key: &[u32; 8], bytes: &[u8], counter: u64, root: u32) -> [u32; 8] {
     if bytes.len() <= CHUNK {
         return chunk(key, bytes, counter, root);
     }
-    let chunks = (bytes.len() - 1) / CHUNK;
-    let left = 1usize << chunks.ilog2();
+    let chunks = (bytes.len() + CHUNK - 1) / CHUNK;
+    let left = chunks.next_power_of_two() / 2;
     let (a, b) = bytes.split_at(left * CHUNK);
     let mut both = [0u32; 16];
     both[..8].copy_from_slice(&tree(key, a, counter, 0));
