@@ -1,3 +1,4 @@
 pub mod Rooms
 pub mod Tabs
 pub mod OneAnswer
+pub mod All

@@ -1,12 +1,13 @@
 -- Lent room: a text written whole or not at all, and a part of the room that was lent on to another writer.
-use mathlib.Core.Path.{_≡_, refl, _∙_}
-use mathlib.Core.List.{List, _++_, append-assoc, append-nil}
-use Prim.Native.Nat.{ℕ, _+_, _-_, _≤_, _<_}
+use mathlib.Core.Path.{_≡_, refl, sym, _∙_}
+use mathlib.Core.List.{List, [], _∷_, _++_, append-assoc, append-nil}
+use Prim.Native.Nat.{ℕ, suc, _+_, _-_, _≤_, _<_}
+use native.Mathlib.Numerals.{add-one}
 use native.Mathlib.Omega.{arith}
 use borrow.Author.Tests.{le-leb, lt-leb}
 use borrow.Rule.Slice.PartMut.{putMid, post-is}
-use lib.ListN.{length, take, drop, length-append, length-drop}
-use lib.Seq.{take-length, take-all, drop-length, drop-drop, drop-append-add, take-append-seam}
+use lib.ListN.{length, take, drop, getD, set, length-append, length-drop}
+use lib.Seq.{drop-cons, set-at, take-length, take-all, drop-length, drop-drop, drop-append-add, take-append-seam}
 use Rattle.basis.specs.Basis.{pick, over, Written}
 
 module _ (text entry : List ℕ) where
@@ -32,3 +33,9 @@ more w1 w e = rw (take-append-seam, drop-append-add, drop-drop, length-append, a
 pub lent-over : (w1 w e x p : List ℕ) (a : ℕ) → a ≡ length w1 → length w1 + length w ≤ length e → x ≡ over w1 e → length x ≡ length e
     → p ≡ over w (take (length x - a) (drop a x)) → putMid a (length x - a) x p ≡ over (w1 ++ w) e
 lent-over w1 w e x p a la h ex lx ep = lent x w p a (omega arith) ep ∙ rw (la, ex) (more w1 w e)
+
+-- one element more behind what the room holds
+pub set-over : (w e : List ℕ) (x i : ℕ) → i ≡ length w → i < length e → set (over w e) i x ≡ over (w ++ (x ∷ [])) e
+set-over w e x i ei h =
+    let g : length w < length e = omega arith in
+    rw (drop-cons e (length w) 0 g, set-at w (getD e (length w) 0) (drop (suc (length w)) e) x i (sym ei), length-append, add-one, append-assoc)

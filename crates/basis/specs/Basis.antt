@@ -3,10 +3,10 @@
 use mathlib.Core.Path.{_≡_}
 use mathlib.Core.Bool.{Bool, true, false}
 use mathlib.Core.List.{List, [], _∷_, _++_}
-use Prim.Native.Nat.{ℕ, zero, suc}
+use Prim.Native.Nat.{ℕ, zero, suc, _<_}
 use Prim.Native.Char.{code}
 use Prim.Native.String.{String, [] as none, _∷_ as _then_}
-use lib.ListN.{length, drop}
+use lib.ListN.{length, drop, getD}
 use lib.Dec.{leb}
 
 abbrev pub pick : {A : Type 0} → Bool → A → A → A
@@ -17,6 +17,10 @@ pick false a b = b
 abbrev pub ascii : String → List ℕ
 ascii none = []
 ascii (c then s) = code c ∷ ascii s
+
+-- every element is a byte
+abbrev pub IsBytes : List ℕ → Type 0
+IsBytes s = (i : ℕ) → getD s i 0 < 256
 
 -- f 0, f 1, .., f (n - 1)
 unfoldable pub tab : ℕ → (ℕ → ℕ) → List ℕ

@@ -1,12 +1,187 @@
 // What the host tests call beyond the product's entry points. Nothing of the product stands on it.
+use base64url::Decoded;
+use base64url::Encoded;
+use cbor::Class;
+use cbor::Head;
+use cbor::Span;
 use keyed_hash::Hashed;
+use values::Item;
 ghost use mathlib.Core.Path.{_≡_};
 ghost use mathlib.Core.List.{_++_};
 ghost use Rattle.keyed_hash.specs.KeyedHash.{hashedOf};
+ghost use Rattle.cbor.specs.Heads.{readHead};
+ghost use Rattle.cbor.specs.Strings.{readRun, readString};
+ghost use Rattle.values.specs.Reading.{valueOf};
+ghost use Rattle.probe.specs.Probes.{decodedProbe, encodedProbe, headProbe, spanProbe, itemProbe, classAt};
+ghost use Rattle.probe.specs.Probes.{DecodeProbed, EncodeProbed};
+
+// An answer as numbers: a host cannot take an enum apart by Rattle's layout.
+#[repr(C)]
+pub struct Probed {
+    pub kind: u32,
+    pub first: u64,
+    pub second: u64,
+    pub third: u64,
+}
 
 #[no_mangle]
 pub extern "C" fn probe_keyed_hash_joined(key: &[u8], head: &[u8], body: &[u8]) -> Hashed
     ensures { λ r. ⌜ r ≡ hashedOf (now (key .entry)) (now (head .entry) ++ now (body .entry)) ⌝ }
 {
     keyed_hash::keyed_hash_joined(key, head, body)
+}
+
+fn decoded_probe(d: Decoded) -> Probed
+    ensures { λ r. ⌜ r ≡ decodedProbe d ⌝ }
+{
+    match d {
+        Decoded::Bytes { n } => Probed {
+            kind: 0,
+            first: n as u64,
+            second: 0,
+            third: 0,
+        },
+        Decoded::Bad { at } => Probed {
+            kind: 3,
+            first: at as u64,
+            second: 0,
+            third: 0,
+        },
+        Decoded::Short => Probed {
+            kind: 36,
+            first: 0,
+            second: 0,
+            third: 0,
+        },
+    }
+}
+
+fn encoded_probe(e: Encoded) -> Probed
+    ensures { λ r. ⌜ r ≡ encodedProbe e ⌝ }
+{
+    match e {
+        Encoded::Text { n } => Probed {
+            kind: 0,
+            first: n as u64,
+            second: 0,
+            third: 0,
+        },
+        Encoded::NoRoom => Probed {
+            kind: 36,
+            first: 0,
+            second: 0,
+            third: 0,
+        },
+    }
+}
+
+fn head_probe(h: Head) -> Probed
+    ensures { λ r. ⌜ r ≡ headProbe h ⌝ }
+{
+    match h {
+        Head::Got { major, value, next } => Probed {
+            kind: 0,
+            first: value,
+            second: next as u64,
+            third: major as u64,
+        },
+        Head::Bad { at } => Probed {
+            kind: 4,
+            first: at as u64,
+            second: 0,
+            third: 0,
+        },
+    }
+}
+
+fn span_probe(p: Span) -> Probed
+    ensures { λ r. ⌜ r ≡ spanProbe p ⌝ }
+{
+    match p {
+        Span::Of { from, to } => Probed {
+            kind: 0,
+            first: from as u64,
+            second: to as u64,
+            third: 0,
+        },
+        Span::Bad { kind, at } => Probed {
+            kind,
+            first: at as u64,
+            second: 0,
+            third: 0,
+        },
+    }
+}
+
+fn item_probe(i: Item) -> Probed
+    ensures { λ r. ⌜ r ≡ itemProbe i ⌝ }
+{
+    match i {
+        Item::End { next } => Probed {
+            kind: 0,
+            first: next as u64,
+            second: 0,
+            third: 0,
+        },
+        Item::Bad { kind, at } => Probed {
+            kind,
+            first: at as u64,
+            second: 0,
+            third: 0,
+        },
+    }
+}
+
+fn class_at(n: u32) -> Class
+    ensures { λ r. ⌜ r ≡ classAt n ⌝ }
+{
+    match n {
+        0 => Class::Name,
+        1 => Class::Printable,
+        2 => Class::Path,
+        3 => Class::Upper,
+        _ => Class::Hex,
+    }
+}
+
+#[no_mangle]
+pub extern "C" fn probe_base64url_decode(text: &[u8], room: &mut [u8]) -> Probed
+    ensures { λ r. ⌜ DecodeProbed (now (text .entry)) (now (room .entry)) r (now (room .exit)) ⌝ }
+{
+    decoded_probe(base64url::decode(text, room))
+}
+
+#[no_mangle]
+pub extern "C" fn probe_base64url_encode(bytes: &[u8], room: &mut [u8]) -> Probed
+    ensures { λ r. ⌜ EncodeProbed (now (bytes .entry)) (now (room .entry)) r (now (room .exit)) ⌝ }
+{
+    encoded_probe(base64url::encode(bytes, room))
+}
+
+#[no_mangle]
+pub extern "C" fn probe_read_head(s: &[u8], at: usize) -> Probed
+    ensures { λ r. ⌜ r ≡ headProbe (readHead (now (s .entry)) at) ⌝ }
+{
+    head_probe(cbor::read_head(s, at))
+}
+
+#[no_mangle]
+pub extern "C" fn probe_read_run(s: &[u8], at: usize, major: u8, low: u64, high: u64) -> Probed
+    ensures { λ r. ⌜ r ≡ spanProbe (readRun (now (s .entry)) at major low high) ⌝ }
+{
+    span_probe(cbor::read_run(s, at, major, low, high))
+}
+
+#[no_mangle]
+pub extern "C" fn probe_read_string(s: &[u8], at: usize, class: u32, low: u64, high: u64) -> Probed
+    ensures { λ r. ⌜ r ≡ spanProbe (readString (now (s .entry)) at (classAt class) low high) ⌝ }
+{
+    span_probe(cbor::read_string(s, at, class_at(class), low, high))
+}
+
+#[no_mangle]
+pub extern "C" fn probe_read_value(s: &[u8], at: usize, depth: u8) -> Probed
+    ensures { λ r. ⌜ r ≡ itemProbe (valueOf depth (now (s .entry)) at) ⌝ }
+{
+    item_probe(values::read_value(s, at, depth))
 }

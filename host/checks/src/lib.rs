@@ -1,4 +1,9 @@
-//! What the tests share: numbers from a seed, the same on every machine and in every run.
+//! What the tests share: numbers from a seed, the same on every machine and in every run;
+//! inputs made from them; and the proved readers beside the second program's.
+
+pub mod beside;
+pub mod edits;
+pub mod inputs;
 
 /// SplitMix64.
 pub struct Seeded(pub u64);

@@ -1,0 +1,62 @@
+-- Letters and their six bits: the code's table is the alphabet's, and each leads back to the other.
+use mathlib.Core.Path.{_≡_, refl, sym, ap, _∙_}
+use mathlib.Core.Bool.{Bool, true, false}
+use mathlib.Core.List.{List, [], _∷_}
+use Prim.Native.Nat.{ℕ, zero, suc, _+_, _≤_, _<_}
+use native.Mathlib.Omega.{arith}
+use borrow.Author.Tests.{eqb-true}
+use lib.Dec.{eqb, leb}
+use lib.ListN.{length, getD}
+use Rattle.bytes.specs.Bytes.{indexOf, indexAfter}
+use Rattle.basis.proofs.All.{all, all-at}
+use Rattle.base64url.specs.Base64url.{alphabet, letterOf}
+use Rattle.base64url.specs.Reading.{digitOf}
+
+-- the table of the code
+unfoldable pub digits : List ℕ
+digits =
+    64 ∷ 64 ∷ 64 ∷ 64 ∷ 64 ∷ 64 ∷ 64 ∷ 64 ∷ 64 ∷ 64 ∷ 64 ∷ 64 ∷ 64 ∷ 64 ∷ 64 ∷ 64 ∷ 64 ∷ 64 ∷ 64 ∷ 64 ∷ 64 ∷ 64 ∷ 64 ∷ 64 ∷ 64 ∷ 64 ∷ 64 ∷ 64 ∷ 64 ∷ 64 ∷ 64 ∷ 64 ∷
+    64 ∷ 64 ∷ 64 ∷ 64 ∷ 64 ∷ 64 ∷ 64 ∷ 64 ∷ 64 ∷ 64 ∷ 64 ∷ 64 ∷ 64 ∷ 62 ∷ 64 ∷ 64 ∷ 52 ∷ 53 ∷ 54 ∷ 55 ∷ 56 ∷ 57 ∷ 58 ∷ 59 ∷ 60 ∷ 61 ∷ 64 ∷ 64 ∷ 64 ∷ 64 ∷ 64 ∷ 64 ∷
+    64 ∷ 0 ∷ 1 ∷ 2 ∷ 3 ∷ 4 ∷ 5 ∷ 6 ∷ 7 ∷ 8 ∷ 9 ∷ 10 ∷ 11 ∷ 12 ∷ 13 ∷ 14 ∷ 15 ∷ 16 ∷ 17 ∷ 18 ∷ 19 ∷ 20 ∷ 21 ∷ 22 ∷ 23 ∷ 24 ∷ 25 ∷ 64 ∷ 64 ∷ 64 ∷ 64 ∷ 63 ∷
+    64 ∷ 26 ∷ 27 ∷ 28 ∷ 29 ∷ 30 ∷ 31 ∷ 32 ∷ 33 ∷ 34 ∷ 35 ∷ 36 ∷ 37 ∷ 38 ∷ 39 ∷ 40 ∷ 41 ∷ 42 ∷ 43 ∷ 44 ∷ 45 ∷ 46 ∷ 47 ∷ 48 ∷ 49 ∷ 50 ∷ 51 ∷ 64 ∷ 64 ∷ 64 ∷ 64 ∷ 64 ∷
+    64 ∷ 64 ∷ 64 ∷ 64 ∷ 64 ∷ 64 ∷ 64 ∷ 64 ∷ 64 ∷ 64 ∷ 64 ∷ 64 ∷ 64 ∷ 64 ∷ 64 ∷ 64 ∷ 64 ∷ 64 ∷ 64 ∷ 64 ∷ 64 ∷ 64 ∷ 64 ∷ 64 ∷ 64 ∷ 64 ∷ 64 ∷ 64 ∷ 64 ∷ 64 ∷ 64 ∷ 64 ∷
+    64 ∷ 64 ∷ 64 ∷ 64 ∷ 64 ∷ 64 ∷ 64 ∷ 64 ∷ 64 ∷ 64 ∷ 64 ∷ 64 ∷ 64 ∷ 64 ∷ 64 ∷ 64 ∷ 64 ∷ 64 ∷ 64 ∷ 64 ∷ 64 ∷ 64 ∷ 64 ∷ 64 ∷ 64 ∷ 64 ∷ 64 ∷ 64 ∷ 64 ∷ 64 ∷ 64 ∷ 64 ∷
+    64 ∷ 64 ∷ 64 ∷ 64 ∷ 64 ∷ 64 ∷ 64 ∷ 64 ∷ 64 ∷ 64 ∷ 64 ∷ 64 ∷ 64 ∷ 64 ∷ 64 ∷ 64 ∷ 64 ∷ 64 ∷ 64 ∷ 64 ∷ 64 ∷ 64 ∷ 64 ∷ 64 ∷ 64 ∷ 64 ∷ 64 ∷ 64 ∷ 64 ∷ 64 ∷ 64 ∷ 64 ∷
+    64 ∷ 64 ∷ 64 ∷ 64 ∷ 64 ∷ 64 ∷ 64 ∷ 64 ∷ 64 ∷ 64 ∷ 64 ∷ 64 ∷ 64 ∷ 64 ∷ 64 ∷ 64 ∷ 64 ∷ 64 ∷ 64 ∷ 64 ∷ 64 ∷ 64 ∷ 64 ∷ 64 ∷ 64 ∷ 64 ∷ 64 ∷ 64 ∷ 64 ∷ 64 ∷ 64 ∷ 64 ∷ []
+
+-- computed over all bytes
+pub table-is : (c : ℕ) → c < 256 → getD digits c 0 ≡ digitOf c
+unfolding digits all digitOf indexOf indexAfter
+table-is c h = eqb-true (getD digits c 0) (digitOf c) (all-at 256 (λ c. eqb (getD digits c 0) (digitOf c)) refl c h)
+
+-- and over all letters
+pub digit-letter : (v : ℕ) → v < 64 → digitOf (letterOf v) ≡ v
+unfolding all digitOf letterOf indexOf indexAfter
+digit-letter v h = eqb-true (digitOf (letterOf v)) v (all-at 64 (λ v. eqb (digitOf (letterOf v)) v) refl v h)
+
+index-le : (c : ℕ) (s : List ℕ) → indexOf c s ≤ length s
+unfolding indexOf indexAfter
+index-le c [] = omega arith
+index-le c (x ∷ s) = by (eqb x c) (index-le c s)
+  where
+    by : (b : Bool) → indexOf c s ≤ length s → indexAfter b (indexOf c s) ≤ length (x ∷ s)
+    by true h = omega arith
+    by false h = omega arith
+
+pub digit-le : (c : ℕ) → digitOf c ≤ 64
+unfolding digitOf
+digit-le c = index-le c alphabet
+
+index-back : (c : ℕ) (s : List ℕ) → indexOf c s < length s → getD s (indexOf c s) 0 ≡ c
+unfolding indexOf indexAfter
+index-back c [] h = let z : ⊥ = omega arith in elim z [ ]
+index-back c (x ∷ s) h = by (eqb x c) refl h (index-back c s)
+  where
+    by : (b : Bool) → eqb x c ≡ b → indexAfter b (indexOf c s) < length (x ∷ s) → (indexOf c s < length s → getD s (indexOf c s) 0 ≡ c)
+        → getD (x ∷ s) (indexAfter b (indexOf c s)) 0 ≡ c
+    by true e h r = eqb-true x c e
+    by false e h r = r (omega arith)
+
+pub letter-digit : (c : ℕ) → digitOf c < 64 → letterOf (digitOf c) ≡ c
+unfolding digitOf letterOf
+letter-digit c h = index-back c alphabet h

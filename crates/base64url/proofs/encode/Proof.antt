@@ -1,0 +1,51 @@
+use Rattle.base64url.proofs.Writings.{few-groups, few-letters, encoded}
+use borrow.Author.Needs.{needs}
+use Rattle.base64url.proofs.encode.Statement.{statement}
+use Rattle.base64url.proofs.encode.Tie as tie
+use Rattle.base64url.proofs.encode.Reads as reads
+use Rattle.base64url.proofs.encode.Lts as lts
+use Rattle.base64url.proofs.tail_length.Reads as tail-length-reads
+use Rattle.base64url.proofs.write.Reads as write-reads
+
+returns : tie.Need-returns
+returns c = few-groups _ _ (c .if1 .taken)
+
+mul-whole : tie.Need-mul-whole
+mul-whole c = search needs
+
+tail-length-requires : tie.Need-tail-length-requires
+tail-length-requires c κs = search needs
+
+sub-if2 : tie.Need-sub-if2
+sub-if2 c = search needs
+
+returns-2 : tie.Need-returns-2
+returns-2 c = few-letters _ _ _ (c .before .tail-length .ensures) (c .before .before .if1 .left) (c .if2 .taken)
+
+write-requires : tie.Need-write-requires
+write-requires c κs = search needs
+
+add-t6 : tie.Need-add-t6
+add-t6 c = search needs
+
+same-length : tie.Need-same-length
+same-length c = search needs
+
+returns-3 : tie.Need-returns-3
+returns-3 c =
+    encoded _ _ _ (c .before .before .before .before .before .tail-length .ensures) (c .before .before .before .before .before .before .if1 .left) _
+    (c .before .before .before .before .if2 .left) (c .before .before .write .ensures)
+
+pub encode-spec : {M : Type 1} → statement M
+encode-spec =
+    tie.close
+    (tie.spec
+    returns
+    mul-whole
+    tail-length-requires
+    sub-if2
+    returns-2
+    write-requires
+    add-t6
+    same-length
+    returns-3)

@@ -1,0 +1,219 @@
+// Base64URL without padding: text to bytes and back. A text is judged before a byte of it is written,
+// so a refusal leaves the room as it was.
+ghost use mathlib.Core.Path.{_≡_};
+ghost use Prim.Native.Nat.{_<_, _≤_};
+ghost use lib.ListN.{length};
+ghost use Rattle.basis.specs.Basis.{over};
+ghost use Rattle.base64url.specs.Base64url.{base64url, letterOf, tailLength, textLength};
+ghost use Rattle.base64url.specs.Writing.{Encoding};
+ghost use Rattle.base64url.specs.Reading.{digitOf, badAt, judgedOf, bytesOf, Fillable, Filled};
+
+// The six bits of each character, and 64 for one that is no letter.
+const DIGITS: [u8; 256] = *b"\x40\x40\x40\x40\x40\x40\x40\x40\x40\x40\x40\x40\x40\x40\x40\x40\
+                             \x40\x40\x40\x40\x40\x40\x40\x40\x40\x40\x40\x40\x40\x40\x40\x40\
+                             \x40\x40\x40\x40\x40\x40\x40\x40\x40\x40\x40\x40\x40\x3e\x40\x40\
+                             \x34\x35\x36\x37\x38\x39\x3a\x3b\x3c\x3d\x40\x40\x40\x40\x40\x40\
+                             \x40\x00\x01\x02\x03\x04\x05\x06\x07\x08\x09\x0a\x0b\x0c\x0d\x0e\
+                             \x0f\x10\x11\x12\x13\x14\x15\x16\x17\x18\x19\x40\x40\x40\x40\x3f\
+                             \x40\x1a\x1b\x1c\x1d\x1e\x1f\x20\x21\x22\x23\x24\x25\x26\x27\x28\
+                             \x29\x2a\x2b\x2c\x2d\x2e\x2f\x30\x31\x32\x33\x40\x40\x40\x40\x40\
+                             \x40\x40\x40\x40\x40\x40\x40\x40\x40\x40\x40\x40\x40\x40\x40\x40\
+                             \x40\x40\x40\x40\x40\x40\x40\x40\x40\x40\x40\x40\x40\x40\x40\x40\
+                             \x40\x40\x40\x40\x40\x40\x40\x40\x40\x40\x40\x40\x40\x40\x40\x40\
+                             \x40\x40\x40\x40\x40\x40\x40\x40\x40\x40\x40\x40\x40\x40\x40\x40\
+                             \x40\x40\x40\x40\x40\x40\x40\x40\x40\x40\x40\x40\x40\x40\x40\x40\
+                             \x40\x40\x40\x40\x40\x40\x40\x40\x40\x40\x40\x40\x40\x40\x40\x40\
+                             \x40\x40\x40\x40\x40\x40\x40\x40\x40\x40\x40\x40\x40\x40\x40\x40\
+                             \x40\x40\x40\x40\x40\x40\x40\x40\x40\x40\x40\x40\x40\x40\x40\x40";
+
+// What a text is: so many bytes, or where it is first at fault.
+pub enum Judged {
+    Whole { n: usize },
+    Fault { at: usize },
+}
+
+pub enum Decoded {
+    Bytes { n: usize },
+    Bad { at: usize },
+    Short,
+}
+
+const LETTERS: [u8; 64] = *b"ABCDEFGHIJKLMNOPQRSTUVWXYZabcdefghijklmnopqrstuvwxyz0123456789-_";
+
+pub enum Encoded {
+    Text { n: usize },
+    NoRoom,
+}
+
+fn digit(c: u8) -> u8
+    ensures { λ r. ⌜ r ≡ digitOf c ⌝ }
+{
+    DIGITS[c as usize]
+}
+
+fn bad_at(text: &[u8]) -> usize
+    ensures { λ r. ⌜ r ≡ badAt (now (text .entry)) ⌝ }
+{
+    let mut i: usize = 0;
+    while i < text.len() {
+        if 64 <= digit(text[i]) {
+            return i;
+        }
+        i += 1;
+    }
+    i
+}
+
+pub fn judge(text: &[u8]) -> Judged
+    ensures { λ r. ⌜ r ≡ judgedOf (now (text .entry)) ⌝ }
+{
+    let n = text.len();
+    let at = bad_at(text);
+    if at < n {
+        return Judged::Fault { at };
+    }
+    let left = n % 4;
+    if left == 1 {
+        return Judged::Fault { at: n };
+    }
+    let whole = n / 4 * 3;
+    if left == 0 {
+        return Judged::Whole { n: whole };
+    }
+    let last = digit(text[n - 1]);
+    if left == 2 {
+        if last % 16 != 0 {
+            return Judged::Fault { at: n - 1 };
+        }
+        return Judged::Whole { n: whole + 1 };
+    }
+    if last % 4 != 0 {
+        return Judged::Fault { at: n - 1 };
+    }
+    Judged::Whole { n: whole + 2 }
+}
+
+// What is left of a text behind its groups of four letters.
+fn fill_rest(text: &[u8], room: &mut [u8])
+    requires { ⌜ Fillable (now text) (now room) × (length (now text) < 4) ⌝ }
+    ensures { λ _. ⌜ now (room .exit) ≡ over (bytesOf (now (text .entry))) (now (room .entry)) ⌝ }
+{
+    if text.len() < 2 {
+        return;
+    }
+    let b = digit(text[1]);
+    room[0] = digit(text[0]) * 4 + b / 16;
+    if text.len() < 3 {
+        return;
+    }
+    room[1] = b % 16 * 16 + digit(text[2]) / 4;
+}
+
+fn fill(text: &[u8], room: &mut [u8])
+    requires { ⌜ Fillable (now text) (now room) ⌝ }
+    ensures { λ _. ⌜ now (room .exit) ≡ over (bytesOf (now (text .entry))) (now (room .entry)) ⌝ }
+{
+    let mut i: usize = 0;
+    let mut j: usize = 0;
+    while 4 <= text.len() - j {
+        let b = digit(text[j + 1]);
+        let c = digit(text[j + 2]);
+        room[i] = digit(text[j]) * 4 + b / 16;
+        room[i + 1] = b % 16 * 16 + c / 4;
+        room[i + 2] = c % 4 * 64 + digit(text[j + 3]);
+        i += 3;
+        j += 4;
+    }
+    fill_rest(&text[j..], &mut room[i..]);
+}
+
+// The bytes of a text at the front of the room, the rest of which stays.
+pub fn decode(text: &[u8], room: &mut [u8]) -> Decoded
+    ensures { λ r. ⌜ Filled (now (text .entry)) (now (room .entry)) r (now (room .exit)) ⌝ }
+{
+    match judge(text) {
+        Judged::Fault { at } => Decoded::Bad { at },
+        Judged::Whole { n } => {
+            if room.len() < n {
+                return Decoded::Short;
+            }
+            fill(text, room);
+            Decoded::Bytes { n }
+        }
+    }
+}
+
+fn letter(v: u8) -> u8
+    requires { ⌜ v < 64 ⌝ }
+    ensures { λ r. ⌜ r ≡ letterOf v ⌝ }
+{
+    LETTERS[v as usize]
+}
+
+// One or two bytes left behind the groups of three, or none.
+fn write_rest(bytes: &[u8], room: &mut [u8])
+    requires { ⌜ (length (now bytes) < 3) × (textLength (length (now bytes)) ≤ length (now room)) ⌝ }
+    ensures { λ _. ⌜ now (room .exit) ≡ over (base64url (now (bytes .entry))) (now (room .entry)) ⌝ }
+{
+    if bytes.len() < 1 {
+        return;
+    }
+    let x = bytes[0];
+    room[0] = letter(x / 4);
+    if bytes.len() < 2 {
+        room[1] = letter(x % 4 * 16);
+        return;
+    }
+    let y = bytes[1];
+    room[1] = letter(x % 4 * 16 + y / 16);
+    room[2] = letter(y % 16 * 4);
+}
+
+fn write(bytes: &[u8], room: &mut [u8])
+    requires { ⌜ textLength (length (now bytes)) ≤ length (now room) ⌝ }
+    ensures { λ _. ⌜ now (room .exit) ≡ over (base64url (now (bytes .entry))) (now (room .entry)) ⌝ }
+{
+    let mut i: usize = 0;
+    let mut j: usize = 0;
+    while 3 <= bytes.len() - j {
+        let x = bytes[j];
+        let y = bytes[j + 1];
+        let z = bytes[j + 2];
+        room[i] = letter(x / 4);
+        room[i + 1] = letter(x % 4 * 16 + y / 16);
+        room[i + 2] = letter(y % 16 * 4 + z / 64);
+        room[i + 3] = letter(z % 64);
+        i += 4;
+        j += 3;
+    }
+    write_rest(&bytes[j..], &mut room[i..]);
+}
+
+fn tail_length(rest: usize) -> usize
+    ensures { λ r. ⌜ r ≡ tailLength rest ⌝ }
+{
+    if rest == 0 {
+        return 0;
+    }
+    if rest == 1 {
+        return 2;
+    }
+    3
+}
+
+// The text of the bytes at the front of the room, the rest of which stays; nothing where it does not fit.
+pub fn encode(bytes: &[u8], room: &mut [u8]) -> Encoded
+    ensures { λ r. ⌜ Encoding (now (bytes .entry)) (now (room .entry)) r (now (room .exit)) ⌝ }
+{
+    let groups = bytes.len() / 3;
+    if room.len() / 4 < groups {
+        return Encoded::NoRoom;
+    }
+    let whole = groups * 4;
+    let tail = tail_length(bytes.len() % 3);
+    if room.len() - whole < tail {
+        return Encoded::NoRoom;
+    }
+    write(bytes, room);
+    Encoded::Text { n: whole + tail }
+}

@@ -1,0 +1,208 @@
+// Deterministic CBOR: heads in their shortest form, and strings by their range and class of content.
+// A reader takes a slice of any length and a place in it; a defect carries document 01's number and
+// the place of the item at fault.
+ghost use mathlib.Core.Path.{_≡_};
+ghost use Prim.Native.Nat.{_≤_};
+ghost use lib.ListN.{length};
+ghost use Rattle.cbor.specs.Heads.{numberOf, widthOf, readHead};
+ghost use Rattle.cbor.specs.Strings.{allOf, kindOf, kindsFrom, contentOf, readRun, readString};
+
+// How many bytes follow a head's first one, and the least number that they may hold.
+pub enum Width {
+    Here,
+    Follow { n: usize, least: u64 },
+    Refused,
+}
+
+pub enum Head {
+    Got { major: u8, value: u64, next: usize },
+    Bad { at: usize },
+}
+
+// What a string may hold.
+pub enum Class {
+    Name,
+    Printable,
+    Path,
+    Upper,
+    Hex,
+}
+
+// A string's content, or what is wrong with it: document 01's number and the place.
+pub enum Span {
+    Of { from: usize, to: usize },
+    Bad { kind: u32, at: usize },
+}
+
+// The kind of each character: 4 a hex digit, 3 a letter A-Z, 2 another character of a name, 1 another
+// printable one, 0 none of these.
+const KINDS: [u8; 256] = *b"\x00\x00\x00\x00\x00\x00\x00\x00\x00\x00\x00\x00\x00\x00\x00\x00\
+                            \x00\x00\x00\x00\x00\x00\x00\x00\x00\x00\x00\x00\x00\x00\x00\x00\
+                            \x00\x01\x01\x01\x01\x01\x01\x01\x01\x01\x01\x01\x01\x02\x02\x01\
+                            \x04\x04\x04\x04\x04\x04\x04\x04\x04\x04\x01\x01\x01\x01\x01\x01\
+                            \x01\x03\x03\x03\x03\x03\x03\x03\x03\x03\x03\x03\x03\x03\x03\x03\
+                            \x03\x03\x03\x03\x03\x03\x03\x03\x03\x03\x03\x01\x01\x01\x01\x02\
+                            \x01\x04\x04\x04\x04\x04\x04\x02\x02\x02\x02\x02\x02\x02\x02\x02\
+                            \x02\x02\x02\x02\x02\x02\x02\x02\x02\x02\x02\x01\x01\x01\x01\x00\
+                            \x00\x00\x00\x00\x00\x00\x00\x00\x00\x00\x00\x00\x00\x00\x00\x00\
+                            \x00\x00\x00\x00\x00\x00\x00\x00\x00\x00\x00\x00\x00\x00\x00\x00\
+                            \x00\x00\x00\x00\x00\x00\x00\x00\x00\x00\x00\x00\x00\x00\x00\x00\
+                            \x00\x00\x00\x00\x00\x00\x00\x00\x00\x00\x00\x00\x00\x00\x00\x00\
+                            \x00\x00\x00\x00\x00\x00\x00\x00\x00\x00\x00\x00\x00\x00\x00\x00\
+                            \x00\x00\x00\x00\x00\x00\x00\x00\x00\x00\x00\x00\x00\x00\x00\x00\
+                            \x00\x00\x00\x00\x00\x00\x00\x00\x00\x00\x00\x00\x00\x00\x00\x00\
+                            \x00\x00\x00\x00\x00\x00\x00\x00\x00\x00\x00\x00\x00\x00\x00\x00";
+
+pub fn width_of(low: u8) -> Width
+    ensures { λ r. ⌜ r ≡ widthOf low ⌝ }
+{
+    match low {
+        0..=23 => Width::Here,
+        24 => Width::Follow { n: 1, least: 24 },
+        25 => Width::Follow { n: 2, least: 256 },
+        26 => Width::Follow { n: 4, least: 65536 },
+        27 => Width::Follow {
+            n: 8,
+            least: 4294967296,
+        },
+        _ => Width::Refused,
+    }
+}
+
+// A big-endian number of at most eight bytes.
+fn number(s: &[u8]) -> u64
+    requires { ⌜ length (now s) ≤ 8 ⌝ }
+    ensures { λ r. ⌜ r ≡ numberOf (now (s .entry)) ⌝ }
+{
+    let mut v: u64 = 0;
+    let mut i: usize = 0;
+    while i < s.len() {
+        v = v * 256 + (s[i] as u64);
+        i += 1;
+    }
+    v
+}
+
+pub fn read_head(s: &[u8], at: usize) -> Head
+    ensures { λ r. ⌜ r ≡ readHead (now (s .entry)) at ⌝ }
+{
+    if s.len() <= at {
+        return Head::Bad { at };
+    }
+    let b = s[at];
+    let major = b / 32;
+    let low = b % 32;
+    let from = at + 1;
+    match width_of(low) {
+        Width::Here => Head::Got {
+            major,
+            value: low as u64,
+            next: from,
+        },
+        Width::Refused => Head::Bad { at },
+        Width::Follow { n, least } => {
+            if s.len() - from < n {
+                return Head::Bad { at };
+            }
+            let v = number(&s[from..from + n]);
+            if v < least {
+                return Head::Bad { at };
+            }
+            Head::Got {
+                major,
+                value: v,
+                next: from + n,
+            }
+        }
+    }
+}
+
+fn kind(c: u8) -> u8
+    ensures { λ r. ⌜ r ≡ kindOf c ⌝ }
+{
+    KINDS[c as usize]
+}
+
+// Whether every character has a kind from low to high.
+fn all_from(s: &[u8], low: u8, high: u8) -> bool
+    ensures { λ r. ⌜ r ≡ allOf (kindsFrom low high) (now (s .entry)) ⌝ }
+{
+    let mut i: usize = 0;
+    while i < s.len() {
+        let k = kind(s[i]);
+        if k < low {
+            return false;
+        }
+        if high < k {
+            return false;
+        }
+        i += 1;
+    }
+    true
+}
+
+pub fn content(s: &[u8], class: Class) -> bool
+    ensures { λ r. ⌜ r ≡ contentOf class (now (s .entry)) ⌝ }
+{
+    match class {
+        Class::Name => all_from(s, 2, 4),
+        Class::Printable => all_from(s, 1, 4),
+        Class::Upper => all_from(s, 3, 3),
+        Class::Hex => all_from(s, 4, 4),
+        Class::Path => {
+            if s.len() == 0 {
+                return false;
+            }
+            if s[0] != b'/' {
+                return false;
+            }
+            all_from(s, 1, 4)
+        }
+    }
+}
+
+// A string of the major type wanted with low to high bytes, whatever they are.
+pub fn read_run(s: &[u8], at: usize, major: u8, low: u64, high: u64) -> Span
+    ensures { λ r. ⌜ r ≡ readRun (now (s .entry)) at major low high ⌝ }
+{
+    match read_head(s, at) {
+        Head::Bad { at: a } => Span::Bad { kind: 4, at: a },
+        Head::Got {
+            major: m,
+            value: n,
+            next,
+        } => {
+            if m != major {
+                return Span::Bad { kind: 4, at };
+            }
+            if n < low {
+                return Span::Bad { kind: 5, at };
+            }
+            if high < n {
+                return Span::Bad { kind: 5, at };
+            }
+            if s.len() - next < n as usize {
+                return Span::Bad { kind: 4, at };
+            }
+            Span::Of {
+                from: next,
+                to: next + n as usize,
+            }
+        }
+    }
+}
+
+// A text string with low to high bytes of the class.
+pub fn read_string(s: &[u8], at: usize, class: Class, low: u64, high: u64) -> Span
+    ensures { λ r. ⌜ r ≡ readString (now (s .entry)) at class low high ⌝ }
+{
+    match read_run(s, at, 3, low, high) {
+        Span::Bad { kind: k, at: a } => Span::Bad { kind: k, at: a },
+        Span::Of { from, to } => {
+            if content(&s[from..to], class) {
+                return Span::Of { from, to };
+            }
+            Span::Bad { kind: 4, at: from }
+        }
+    }
+}
