@@ -2,3 +2,4 @@ pub mod Rooms
 pub mod Tabs
 pub mod OneAnswer
 pub mod All
+pub mod Powers

@@ -1,13 +1,9 @@
 -- A word turned right, from shifts, a mask and xor: once over the number of places n and the rest k of the word.
 use mathlib.Core.Path.{_≡_, refl, sym, ap, ap₂, _∙_}
 use Prim.Native.Nat.{ℕ, _+_, _-_, _*_, _/_, _%_, _^_, _≤_, _<_}
-use native.Mathlib.Nat.{add-comm, mod-eq-of-lt, one-mul, mod-lt, le-refl}
+use native.Mathlib.Nat.{add-comm, mod-lt, le-refl}
 use lib.Bits.{bitAnd, bitXor, and-mask, xor-shifted, xor-comm}
-use lib.Pow.{pow-lt, pow-pos, shr-lt, shl-exact}
-
--- the mask of the n low bits, made in a word of w bits
-pub mask : (n w : ℕ) → n < w → 1 * 2 ^ n % 2 ^ w ≡ 2 ^ n
-mask n w h = rw one-mul (mod-eq-of-lt (pow-lt h))
+use lib.Pow.{pow-pos, shr-lt, shl-exact}
 
 pub turned : (x n k w : ℕ) → n + k ≡ w → x < 2 ^ (k + n)
     → bitXor (x / 2 ^ n) (bitAnd x (2 ^ n - 1) * 2 ^ k % 2 ^ w) ≡ x / 2 ^ n + x % 2 ^ n * 2 ^ k

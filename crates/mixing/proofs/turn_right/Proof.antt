@@ -3,7 +3,8 @@ use Prim.Native.Nat.{_+_, _-_}
 use native.Mathlib.Omega.{arith}
 use lib.Pow.{pow-pos}
 use Rattle.mixing.specs.Compression.{turn}
-use Rattle.mixing.proofs.Turning.{mask, turned}
+use Rattle.mixing.proofs.Turning.{turned}
+use Rattle.basis.proofs.Powers.{one-shifted}
 use borrow.Author.Needs.{needs}
 use Rattle.mixing.proofs.turn_right.Statement.{statement}
 use Rattle.mixing.proofs.turn_right.Tie as tie
@@ -17,7 +18,7 @@ shl-result : tie.Need-shl-result
 shl-result c = search needs
 
 sub-result : tie.Need-sub-result
-sub-result c = let m = mask (c .args .n) 32 (c .pre .1) in let p = pow-pos (c .args .n) in omega arith
+sub-result c = let m = one-shifted (c .args .n) 32 (c .pre .1) in let p = pow-pos (c .args .n) in omega arith
 
 sub-result-2 : tie.Need-sub-result-2
 sub-result-2 c = search needs
@@ -32,7 +33,7 @@ returns c =
     let n = c .args .n in
     let e : n + (32 - n) ≡ 32 = omega arith in
     let f : (32 - n) + n ≡ 32 = omega arith in
-    rw (mask n 32 (c .pre .1)) (turned x n (32 - n) 32 e (rw f (c .fits .x .fits)))
+    rw (one-shifted n 32 (c .pre .1)) (turned x n (32 - n) 32 e (rw f (c .fits .x .fits)))
 
 pub turn-right-spec : {M : Type 1} → statement M
 turn-right-spec =

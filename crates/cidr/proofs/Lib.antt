@@ -1,0 +1,3 @@
+pub mod NumberReads
+pub mod TextLaws
+pub mod OneAnswer

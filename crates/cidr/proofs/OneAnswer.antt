@@ -1,0 +1,10 @@
+-- The public function has one result for its argument.
+use mathlib.Core.Path.{_≡_}
+use mathlib.Core.List.{List}
+use Prim.Native.Nat.{ℕ}
+use Rattle.basis.proofs.OneAnswer.{told}
+use Rattle.cidr.specs.Reading.{cidrOf}
+use Rattle.cidr.specs.declared.Cidr.{Cidr}
+
+pub read-cidr-one-answer : (text : List ℕ) {r s : Cidr} → r ≡ cidrOf text → s ≡ cidrOf text → r ≡ s
+read-cidr-one-answer text p q = told p q
