@@ -1,3 +1,5 @@
+pub mod BitLaws
+pub mod Comparing
 pub mod NumberReads
 pub mod TextLaws
 pub mod OneAnswer

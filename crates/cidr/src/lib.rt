@@ -1,7 +1,9 @@
 // The text of an IPv4 prefix, judged whole: one spelling for each prefix, anything else is refused.
+// And whether first bits agree, over strings of bytes of any length, so that no width is written here.
 ghost use mathlib.Core.Path.{_≡_};
 ghost use Prim.Native.Nat.{_-_, _%_, _^_};
 ghost use lib.Dec.{eqb};
+ghost use Rattle.cidr.specs.Bits.{agreeOf};
 ghost use Rattle.cidr.specs.Prefixes.{addressOf};
 ghost use Rattle.cidr.specs.Reading.{digitAt, numberAt, partAt, sizeAt, cidrOf, Bytes4};
 
@@ -142,4 +144,29 @@ pub fn read_cidr(s: &[u8]) -> Cidr
         return Cidr::Of { a, b, c, d, n };
     }
     Cidr::Bad
+}
+
+// Whether the first n bits of two strings of bytes agree; where one has fewer bits, the other must too.
+pub fn first_bits_agree(x: &[u8], y: &[u8], n: u32) -> bool
+    ensures { λ r. ⌜ r ≡ agreeOf (now (x .entry)) (now (y .entry)) n ⌝ }
+{
+    let mut i: usize = 0;
+    let mut left = n;
+    while i < x.len() {
+        if y.len() <= i {
+            return left == 0;
+        }
+        if left < 8 {
+            return (x[i] as u32) >> (8 - left) == (y[i] as u32) >> (8 - left);
+        }
+        if x[i] != y[i] {
+            return false;
+        }
+        i += 1;
+        left -= 8;
+    }
+    if i < y.len() {
+        return left == 0;
+    }
+    true
 }
