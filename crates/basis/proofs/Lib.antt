@@ -3,3 +3,4 @@ pub mod Tabs
 pub mod OneAnswer
 pub mod All
 pub mod Powers
+pub mod Sameness

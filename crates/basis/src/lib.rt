@@ -2,6 +2,7 @@
 ghost use mathlib.Core.Path.{_≡_};
 ghost use Prim.Native.Nat.{min};
 ghost use Rattle.basis.specs.Basis.{Written};
+ghost use Rattle.basis.specs.Same.{sameOf};
 
 // The smaller of two counts.
 pub fn least(a: usize, b: usize) -> usize
@@ -19,4 +20,20 @@ pub fn put(text: &[u8], room: &mut [u8]) -> usize
         return 0;
     }
     bytes::copy(text, room)
+}
+
+pub fn same(x: &[u8], y: &[u8]) -> bool
+    ensures { λ r. ⌜ r ≡ sameOf (now (x .entry)) (now (y .entry)) ⌝ }
+{
+    if x.len() != y.len() {
+        return false;
+    }
+    let mut i: usize = 0;
+    while i < x.len() {
+        if x[i] != y[i] {
+            return false;
+        }
+        i += 1;
+    }
+    true
 }

@@ -5,3 +5,5 @@ pub mod Classes
 pub mod RunReads
 pub mod StringLaws
 pub mod OneAnswer
+pub mod HeadLengths
+pub mod CountLaws

@@ -5,6 +5,7 @@ ghost use mathlib.Core.Path.{_≡_};
 ghost use Prim.Native.Nat.{_≤_};
 ghost use lib.ListN.{length};
 ghost use Rattle.cbor.specs.Heads.{numberOf, widthOf, readHead};
+ghost use Rattle.cbor.specs.Counts.{readCount};
 ghost use Rattle.cbor.specs.Strings.{allOf, kindOf, kindsFrom, contentOf, readRun, readString};
 
 // How many bytes follow a head's first one, and the least number that they may hold.
@@ -31,6 +32,12 @@ pub enum Class {
 // A string's content, or what is wrong with it: document 01's number and the place.
 pub enum Span {
     Of { from: usize, to: usize },
+    Bad { kind: u32, at: usize },
+}
+
+// A number or a count, or what is wrong with it: document 01's number and the place.
+pub enum Count {
+    Of { n: u64, next: usize },
     Bad { kind: u32, at: usize },
 }
 
@@ -203,6 +210,31 @@ pub fn read_string(s: &[u8], at: usize, class: Class, low: u64, high: u64) -> Sp
                 return Span::Of { from, to };
             }
             Span::Bad { kind: 4, at: from }
+        }
+    }
+}
+
+// A number, or the count of an array or a map; `above` is the number of the defect where it is too large.
+pub fn read_count(s: &[u8], at: usize, major: u8, least: u64, most: u64, above: u32) -> Count
+    ensures { λ r. ⌜ r ≡ readCount (now (s .entry)) at major least most above ⌝ }
+{
+    match read_head(s, at) {
+        Head::Bad { at: a } => Count::Bad { kind: 4, at: a },
+        Head::Got {
+            major: m,
+            value: n,
+            next,
+        } => {
+            if m != major {
+                return Count::Bad { kind: 4, at };
+            }
+            if n < least {
+                return Count::Bad { kind: 4, at };
+            }
+            if most < n {
+                return Count::Bad { kind: above, at };
+            }
+            Count::Of { n, next }
         }
     }
 }

@@ -1,10 +1,13 @@
 -- Document 01, "Examples on the line": those marked *, shown once, as one table, by computation.
 use mathlib.Core.Path.{_≡_, refl}
 use mathlib.Core.List.{List, [], _∷_}
+use mathlib.Core.Option.{none}
 use Rattle.basis.specs.Basis.{ascii}
 use Rattle.bytes.specs.Bytes.{indexOf, indexAfter}
 use Rattle.cbor.specs.Heads.{big, head, numberFrom, widthOf, headBy, headAt, readHead}
 use Rattle.cbor.specs.declared.Head.the-variants.{Bad}
+use Rattle.caveat.specs.Maps.{texts}
+use Rattle.caveat.specs.Scopes.{encodeMethods, encodeScope}
 use Rattle.base64url.specs.Base64url.{letterOf, base64url}
 use Rattle.base64url.specs.Reading.{digitOf, badAt, unusedOf, judgedOf}
 use Rattle.base64url.specs.declared.Judged.the-variants.{Fault}
@@ -21,5 +24,7 @@ pub marked :
     × (base64url (0xff ∷ []) ≡ ascii "_w")
     × (judgedOf (ascii "_x") ≡ Fault 1)
     × (base64url (0xfb ∷ 0xff ∷ []) ≡ ascii "-_8")
-unfolding big head numberFrom widthOf headBy headAt letterOf base64url digitOf indexOf indexAfter badAt unusedOf judgedOf
-marked = (refl, refl, refl, refl, refl, refl, refl, refl, refl, refl, refl)
+    × (encodeScope (record { prefix = none; methods = ascii "GET" ∷ []; max-bytes = none })
+    ≡ 0xa1 ∷ 0x67 ∷ 0x6d ∷ 0x65 ∷ 0x74 ∷ 0x68 ∷ 0x6f ∷ 0x64 ∷ 0x73 ∷ 0x81 ∷ 0x63 ∷ 0x47 ∷ 0x45 ∷ 0x54 ∷ [])
+unfolding big head numberFrom widthOf headBy headAt letterOf base64url digitOf indexOf indexAfter badAt unusedOf judgedOf texts encodeMethods encodeScope
+marked = (refl, refl, refl, refl, refl, refl, refl, refl, refl, refl, refl, refl)

@@ -1,5 +1,6 @@
 -- The answers of the readers as four numbers, so that a host test in another language can compare them with its own.
 use mathlib.Core.Path.{_≡_}
+use mathlib.Core.Bool.{Bool, true, false}
 use mathlib.Core.List.{List}
 use Prim.Native.Nat.{ℕ}
 use lib.ListN.{length}
@@ -19,6 +20,9 @@ use Rattle.cbor.specs.declared.Class.{Class}
 use Rattle.cbor.specs.declared.Class.the-variants.{Name, Printable, Path, Upper, Hex}
 use Rattle.values.specs.declared.Item.{Item}
 use Rattle.values.specs.declared.Item.the-variants.{End, Bad as NoItem}
+use Rattle.cidr.specs.Prefixes.{addressOf}
+use Rattle.cidr.specs.declared.Cidr.{Cidr}
+use Rattle.cidr.specs.declared.Cidr.the-variants.{Of as Prefix, Bad as NoPrefix}
 use Rattle.probe.specs.declared.Probed.{Probed}
 
 -- a number of the answer list, and what it carries
@@ -47,6 +51,15 @@ spanProbe (NoSpan kind at) = told kind at 0 0
 abbrev pub itemProbe : Item → Probed
 itemProbe (End next) = told 0 next 0 0
 itemProbe (NoItem kind at) = told kind at 0 0
+
+-- the address as one number fits 64 bits whatever its four numbers are
+abbrev pub cidrProbe : Cidr → Probed
+cidrProbe (Prefix a b c d n) = told 0 (addressOf a b c d) n 0
+cidrProbe NoPrefix = told 4 0 0 0
+
+abbrev pub boolProbe : Bool → Probed
+boolProbe true = told 0 1 0 0
+boolProbe false = told 0 0 0 0
 
 -- every number names a class, so that no call is outside the contract
 abbrev pub classAt : ℕ → Class

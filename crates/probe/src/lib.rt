@@ -4,6 +4,7 @@ use base64url::Encoded;
 use cbor::Class;
 use cbor::Head;
 use cbor::Span;
+use cidr::Cidr;
 use keyed_hash::Hashed;
 use values::Item;
 ghost use mathlib.Core.Path.{_≡_};
@@ -12,7 +13,10 @@ ghost use Rattle.keyed_hash.specs.KeyedHash.{hashedOf};
 ghost use Rattle.cbor.specs.Heads.{readHead};
 ghost use Rattle.cbor.specs.Strings.{readRun, readString};
 ghost use Rattle.values.specs.Reading.{valueOf};
+ghost use Rattle.cidr.specs.Bits.{agreeOf};
+ghost use Rattle.cidr.specs.Reading.{cidrOf};
 ghost use Rattle.probe.specs.Probes.{decodedProbe, encodedProbe, headProbe, spanProbe, itemProbe, classAt};
+ghost use Rattle.probe.specs.Probes.{cidrProbe, boolProbe};
 ghost use Rattle.probe.specs.Probes.{DecodeProbed, EncodeProbed};
 
 // An answer as numbers: a host cannot take an enum apart by Rattle's layout.
@@ -132,6 +136,44 @@ fn item_probe(i: Item) -> Probed
     }
 }
 
+fn cidr_probe(p: Cidr) -> Probed
+    ensures { λ r. ⌜ r ≡ cidrProbe p ⌝ }
+{
+    match p {
+        Cidr::Of { a, b, c, d, n } => Probed {
+            kind: 0,
+            first: ((a as u64 * 256 + b as u64) * 256 + c as u64) * 256 + d as u64,
+            second: n as u64,
+            third: 0,
+        },
+        Cidr::Bad => Probed {
+            kind: 4,
+            first: 0,
+            second: 0,
+            third: 0,
+        },
+    }
+}
+
+fn bool_probe(b: bool) -> Probed
+    ensures { λ r. ⌜ r ≡ boolProbe b ⌝ }
+{
+    if b {
+        return Probed {
+            kind: 0,
+            first: 1,
+            second: 0,
+            third: 0,
+        };
+    }
+    Probed {
+        kind: 0,
+        first: 0,
+        second: 0,
+        third: 0,
+    }
+}
+
 fn class_at(n: u32) -> Class
     ensures { λ r. ⌜ r ≡ classAt n ⌝ }
 {
@@ -184,4 +226,18 @@ pub extern "C" fn probe_read_value(s: &[u8], at: usize, depth: u8) -> Probed
     ensures { λ r. ⌜ r ≡ itemProbe (valueOf depth (now (s .entry)) at) ⌝ }
 {
     item_probe(values::read_value(s, at, depth))
+}
+
+#[no_mangle]
+pub extern "C" fn probe_read_cidr(s: &[u8]) -> Probed
+    ensures { λ r. ⌜ r ≡ cidrProbe (cidrOf (now (s .entry))) ⌝ }
+{
+    cidr_probe(cidr::read_cidr(s))
+}
+
+#[no_mangle]
+pub extern "C" fn probe_first_bits_agree(x: &[u8], y: &[u8], n: u32) -> Probed
+    ensures { λ r. ⌜ r ≡ boolProbe (agreeOf (now (x .entry)) (now (y .entry)) n) ⌝ }
+{
+    bool_probe(cidr::first_bits_agree(x, y, n))
 }

@@ -36,6 +36,8 @@ extern "C" {
     fn probe_read_run(s: *const u8, s_len: usize, at: usize, major: u8, low: u64, high: u64) -> Probed;
     fn probe_read_string(s: *const u8, s_len: usize, at: usize, class: u32, low: u64, high: u64) -> Probed;
     fn probe_read_value(s: *const u8, s_len: usize, at: usize, depth: u8) -> Probed;
+    fn probe_read_cidr(s: *const u8, s_len: usize) -> Probed;
+    fn probe_first_bits_agree(x: *const u8, x_len: usize, y: *const u8, y_len: usize, n: u32) -> Probed;
 }
 
 pub fn keyed_hash(key: &[u8], message: &[u8]) -> Hashed {
@@ -87,4 +89,16 @@ pub fn read_string(s: &[u8], at: usize, class: u32, low: u64, high: u64) -> Prob
 pub fn read_value(s: &[u8], at: usize, depth: u8) -> Probed {
     // SAFETY: the range is that of a live slice, which the callee only reads.
     unsafe { probe_read_value(s.as_ptr(), s.len(), at, depth) }
+}
+
+/// Kind 0: the address as one number, and how many of its bits count. Kind 4: no prefix's text.
+pub fn read_cidr(s: &[u8]) -> Probed {
+    // SAFETY: the range is that of a live slice, which the callee only reads.
+    unsafe { probe_read_cidr(s.as_ptr(), s.len()) }
+}
+
+/// Kind 0, and `first` is 1 where the first `n` bits agree, else 0.
+pub fn first_bits_agree(x: &[u8], y: &[u8], n: u32) -> Probed {
+    // SAFETY: both ranges are those of live slices, which the callee only reads.
+    unsafe { probe_first_bits_agree(x.as_ptr(), x.len(), y.as_ptr(), y.len(), n) }
 }

@@ -3,11 +3,12 @@
 
 use archive::Probed;
 use second::cbor::{Class, Defect};
-use second::{base64url, cbor, values};
+use second::{base64url, cbor, cidr, values};
 
 use crate::inputs::hex;
 
 const PARSE_B64: u32 = 3;
+const PARSE_CBOR: u32 = 4;
 const OUT_SHORT: u32 = 36;
 
 /// What a reader says: its numbers, zero behind the last one, or a defect's number and place.
@@ -25,6 +26,12 @@ impl Beside {
     pub fn reached(&self, (compared, taken): (usize, usize)) {
         assert!(self.compared >= compared, "{} inputs compared of {compared}", self.compared);
         assert!(self.taken >= taken, "{} inputs taken of {taken}", self.taken);
+    }
+
+    /// As many of the inputs were refused; without one, a reader that takes all would do as well.
+    pub fn refused(&self, count: usize) {
+        let refused = self.compared - self.taken;
+        assert!(refused >= count, "{refused} inputs refused of {count}");
     }
 
     pub fn head(&mut self, s: &[u8], at: usize) {
@@ -49,6 +56,22 @@ impl Beside {
         let proved = said(archive::read_value(s, at, depth), 1);
         let wanted = values::value(s, at, depth).map(|next| [next as u64, 0, 0]).map_err(told);
         self.compare(proved, wanted, || format!("value at {at}, {depth} deep, of {}", hex(s)));
+    }
+
+    pub fn cidr(&mut self, text: &[u8]) {
+        let proved = said(archive::read_cidr(text), 3);
+        let wanted = cidr::read(text).map(|prefix| [u64::from(prefix.address), u64::from(prefix.size), 0]);
+        self.compare(proved, wanted.ok_or((PARSE_CBOR, 0)), || format!("prefix {}", hex(text)));
+    }
+
+    /// What agrees counts as taken.
+    pub fn first_bits(&mut self, x: &[u8], y: &[u8], n: u32) {
+        let proved = archive::first_bits_agree(x, y, n);
+        let agree = cidr::first_bits_agree(x, y, n);
+        let wanted = Probed { kind: 0, first: u64::from(agree), second: 0, third: 0 };
+        assert_eq!(proved, wanted, "first {n} bits of {} and {}", hex(x), hex(y));
+        self.compared += 1;
+        self.taken += usize::from(agree);
     }
 
     fn compare(&mut self, proved: Said, wanted: Said, input: impl Fn() -> String) {

@@ -4,5 +4,6 @@
 
 pub mod base64url;
 pub mod cbor;
+pub mod cidr;
 mod utf8;
 pub mod values;

@@ -1,0 +1,1 @@
+// Scopes and caveats: what they are and how they are written.
