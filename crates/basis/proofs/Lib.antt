@@ -4,3 +4,4 @@ pub mod OneAnswer
 pub mod All
 pub mod Powers
 pub mod Sameness
+pub mod Parts

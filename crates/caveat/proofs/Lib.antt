@@ -1,1 +1,4 @@
 pub mod Lengths
+pub mod TextLaws
+pub mod MethodLaws
+pub mod OneAnswer

@@ -1,3 +1,4 @@
 pub mod Maps
 pub mod Scopes
 pub mod Caveats
+pub mod Methods

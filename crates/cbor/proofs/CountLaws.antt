@@ -1,18 +1,32 @@
 -- Counts both ways: what is written within limits is read, what is read was written so; and one law for each way out of the code.
 use mathlib.Core.Path.{_≡_, refl, sym, ap, _∙_}
 use mathlib.Core.Bool.{Bool, true, false}
-use mathlib.Core.List.{List}
-use Prim.Native.Nat.{ℕ, _≤_, _<_}
+use mathlib.Core.List.{List, _++_}
+use Prim.Native.Nat.{ℕ, _+_, _^_, _≤_, _<_}
 use native.Mathlib.Omega.{arith}
 use borrow.Author.Tests.{lt-ltb, le-ltb, eq-eqb, ne-eqb, ltb-false, eqb-true}
 use lib.Dec.{ltb, eqb}
-use Rattle.basis.specs.Basis.{pick}
-use Rattle.cbor.specs.Heads.{readHead}
+use lib.ListN.{length, drop}
+use lib.Seq.{drop-drop}
+use Rattle.basis.specs.Basis.{pick, IsBytes}
+use Rattle.cbor.specs.Heads.{head, headAt, readHead}
 use Rattle.cbor.specs.Counts.{countBy, readCount}
 use Rattle.cbor.specs.declared.Head.{Head}
 use Rattle.cbor.specs.declared.Head.the-variants.{Got, Bad as NoHead}
+use Rattle.cbor.proofs.HeadLaws.{read-written, written-read}
+use Rattle.cbor.proofs.StringLaws.{drop-bytes}
 use Rattle.cbor.specs.declared.Count.{Count}
 use Rattle.cbor.specs.declared.Count.the-variants.{Of, Bad}
+
+-- a head that was written at `at`, and one that was read there
+pub head-there : (s t : List ℕ) (at major n : ℕ) → drop at s ≡ head major n ++ t → n < 2 ^ 64 → readHead s at ≡ Got major n (at + length (head major n))
+head-there s t at major n e h = ap (headAt at) e ∙ read-written at major n t h
+
+pub there-head : (s : List ℕ) → IsBytes s → (at : ℕ) {major n next : ℕ} → readHead s at ≡ Got major n next → drop at s ≡ head major n ++ drop next s
+there-head s b at {major} {n} {next} q =
+    let w = written-read at (drop at s) (drop-bytes at s b) q in
+    let h = head major n in
+    sym (ap (λ (t : List ℕ). h ++ t) (ap (λ (i : ℕ). drop i s) (w .past) ∙ sym (drop-drop (length h) at s)) ∙ w .front)
 
 module _ (s : List ℕ) (at major least most above : ℕ) where
   pub no-head : {a : ℕ} → readHead s at ≡ NoHead a → Bad 4 a ≡ readCount s at major least most above

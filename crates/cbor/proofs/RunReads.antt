@@ -98,3 +98,21 @@ found s at major low high {from} {to} = by (readHead s at) refl
     by (NoHead a) p e = let z : _≡_ {A = ℕ} 0 1 = cc in let z : ⊥ = omega arith in elim z [ ]
     by (Got m n next) p e =
         found-by s at major low high p (eqb m major) refl (ltb n low) refl (ltb high n) refl (ltb (length s - next) n) refl e
+
+-- what a text that was read is
+pub record Held (s : List ℕ) (at : ℕ) (class : Class) (low high from to : ℕ) : Type 0 where
+  pub run-found : readRun s at 3 low high ≡ Of from to
+  pub good : contentOf class (take (to - from) (drop from s)) ≡ true
+
+pub held : (s : List ℕ) (at : ℕ) (class : Class) (low high : ℕ) {from to : ℕ} → readString s at class low high ≡ Of from to → Held s at class low high from to
+unfolding contentBy
+held s at class low high {from} {to} = by (readRun s at 3 low high) refl
+  where
+    tried : (f t : ℕ) → readRun s at 3 low high ≡ Of f t → (b : Bool) → contentOf class (take (t - f) (drop f s)) ≡ b → pick b (Of f t) (Bad 4 f) ≡ Of from to
+        → Held s at class low high from to
+    tried f t p true q e = let x : f ≡ from = cc in let y : t ≡ to = cc in record { run-found = rw (← x, ← y) p; good = rw (← x, ← y) q }
+    tried f t p false q e = let z : _≡_ {A = ℕ} 0 1 = cc in let z : ⊥ = omega arith in elim z [ ]
+
+    by : (r : Span) → readRun s at 3 low high ≡ r → contentBy class s r ≡ Of from to → Held s at class low high from to
+    by (Bad kind a) p e = let z : _≡_ {A = ℕ} 0 1 = cc in let z : ⊥ = omega arith in elim z [ ]
+    by (Of f t) p e = tried f t p (contentOf class (take (t - f) (drop f s))) refl e

@@ -7,23 +7,17 @@ use native.Mathlib.Nat.{add-zero}
 use native.Mathlib.Omega.{arith}
 use borrow.Author.Tests.{le-ltb}
 use lib.ListN.{length, take, drop, length-append}
-use lib.Seq.{drop-drop, drop-at}
 use Rattle.basis.specs.Basis.{pick}
-use Rattle.cbor.specs.Heads.{head, headAt, readHead}
+use Rattle.cbor.specs.Heads.{head}
 use Rattle.cbor.specs.Strings.{string}
-use Rattle.cbor.specs.declared.Head.the-variants.{Got}
-use Rattle.cbor.proofs.HeadLaws.{read-written}
+use Rattle.basis.proofs.Parts.{past, ends}
+use Rattle.cbor.proofs.CountLaws.{head-there}
 use Rattle.cbor.proofs.StringLaws.{written-head, fits, content-there}
 use Rattle.values.specs.Utf8.{utf8}
 use Rattle.values.specs.Reading.{runOf, textOf, andThen, itemsOf, valueOf}
 use Rattle.values.specs.Trees.{Value, number, negative, bytes, text, simple, array, Values, none, more, count, encode, encodes, Good, AllGood}
 use Rattle.values.specs.declared.Item.the-variants.{End, Bad}
 use Rattle.values.proofs.ItemReads as reads
-
--- a head at `at`
-module _ (s t : List ℕ) (at major n : ℕ) (e : drop at s ≡ head major n ++ t) (h : n < 2 ^ 64) where
-  head-there : readHead s at ≡ Got major n (at + length (head major n))
-  head-there = ap (headAt at) e ∙ read-written at major n t h
 
 module _ (s t c : List ℕ) (at major : ℕ) (e : drop at s ≡ string major c ++ t) (h : length c < 2 ^ 64) where
   abbrev next : ℕ
@@ -40,13 +34,6 @@ module _ (s t c : List ℕ) (at major : ℕ) (e : drop at s ≡ string major c +
   unfolding textOf
   text-there u =
       rw (le-ltb (length s - next) (length c) (omega (arith, fits s c t at major e h)), content-there s c t at major e h, u) (ap End string-end)
-
--- what stands behind a part that lies at `at`
-past : (s x t : List ℕ) (at : ℕ) → drop at s ≡ x ++ t → drop (at + length x) s ≡ t
-past s x t at e = sym (drop-drop (length x) at s) ∙ ap (drop (length x)) e ∙ drop-at x t (length x) refl
-
-ends : (x y : List ℕ) (at : ℕ) → at + length x + length y ≡ at + length (x ++ y)
-ends x y at = rw (length-append x y) (omega arith)
 
 mutual
   unfolding Good encode count itemsOf andThen

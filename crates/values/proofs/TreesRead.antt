@@ -14,6 +14,7 @@ use Rattle.cbor.specs.Strings.{string}
 use Rattle.cbor.specs.declared.Head.{Head}
 use Rattle.cbor.specs.declared.Head.the-variants.{Got, Bad as NoHead}
 use Rattle.cbor.proofs.HeadLaws.{written-read}
+use Rattle.cbor.proofs.CountLaws.{there-head}
 use Rattle.cbor.proofs.StringLaws.{drop-bytes}
 use Rattle.values.specs.Utf8.{utf8}
 use Rattle.values.specs.Reading.{runOf, textOf, andThen, itemsOf, byMajor, valueOf}
@@ -35,10 +36,7 @@ pub record AreValues (d : ℕ) (s : List ℕ) (k at next : ℕ) : Type 0 where
 
 module _ (d : ℕ) (s : List ℕ) (b : IsBytes s) (at : ℕ) {major n nx : ℕ} (q : readHead s at ≡ Got major n nx) where
   headed : drop at s ≡ head major n ++ drop nx s
-  headed =
-      let w = written-read at (drop at s) (drop-bytes at s b) q in
-      let h = head major n in
-      sym (ap (λ (t : List ℕ). h ++ t) (ap (λ (i : ℕ). drop i s) (w .past) ∙ sym (drop-drop (length h) at s)) ∙ w .front)
+  headed = there-head s b at q
 
   bounded : n < 2 ^ 64
   bounded = written-read at (drop at s) (drop-bytes at s b) q .small

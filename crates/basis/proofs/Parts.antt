@@ -1,0 +1,13 @@
+-- A part that lies at a place of a longer string: what stands behind it, and where it ends.
+use mathlib.Core.Path.{_≡_, refl, sym, ap, _∙_}
+use mathlib.Core.List.{List, _++_}
+use Prim.Native.Nat.{ℕ, _+_}
+use native.Mathlib.Omega.{arith}
+use lib.ListN.{length, drop, length-append}
+use lib.Seq.{drop-drop, drop-at}
+
+pub past : (s x t : List ℕ) (at : ℕ) → drop at s ≡ x ++ t → drop (at + length x) s ≡ t
+past s x t at e = sym (drop-drop (length x) at s) ∙ ap (drop (length x)) e ∙ drop-at x t (length x) refl
+
+pub ends : (x y : List ℕ) (at : ℕ) → at + length x + length y ≡ at + length (x ++ y)
+ends x y at = rw (length-append x y) (omega arith)
