@@ -11,3 +11,7 @@ past s x t at e = sym (drop-drop (length x) at s) ∙ ap (drop (length x)) e ∙
 
 pub ends : (x y : List ℕ) (at : ℕ) → at + length x + length y ≡ at + length (x ++ y)
 ends x y at = rw (length-append x y) (omega arith)
+
+-- x, and then what stands behind it
+pub on : (x : List ℕ) {a b c : List ℕ} → a ≡ x ++ b → b ≡ c → a ≡ x ++ c
+on x e f = e ∙ ap (λ (t : List ℕ). x ++ t) f

@@ -1,4 +1,0 @@
-pub mod Lengths
-pub mod TextLaws
-pub mod MethodLaws
-pub mod OneAnswer

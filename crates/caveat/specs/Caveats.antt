@@ -11,8 +11,8 @@ use Rattle.cbor.specs.Heads.{head}
 use Rattle.cbor.specs.declared.Class.the-variants.{Name, Printable, Hex}
 use Rattle.values.specs.Trees.{Value, encode, Good}
 use Rattle.cidr.specs.Prefixes.{Prefix, textOf, Good as GoodPrefix}
-use Rattle.caveat.specs.Maps.{text, entry, GoodText}
-use Rattle.caveat.specs.Scopes.{encodeMethods, GoodMethods, GoodPath, Number64}
+use Rattle.keys.specs.Maps.{text, entry, GoodText}
+use Rattle.scope.specs.Scopes.{encodeMethods, GoodMethods, GoodPath, Number64}
 
 -- `rate per-s burst`; `custom ns name value`
 pub data Caveat : Type 0 where

@@ -1,5 +1,2 @@
-pub mod Maps
-pub mod Scopes
 pub mod Caveats
-pub mod Methods
-pub mod Keys
+pub mod Reading

@@ -1,167 +1,280 @@
-// Scopes and caveats: what they are, how they are written and how they are read. A reader takes a slice
-// of any length and a place in it; a defect carries document 01's number and the place of the item at
-// fault.
+// Caveats: what they are, how they are written and how they are read. A reader is lent a part that begins
+// with the caveat's first byte, whatever stands behind it; a defect carries document 01's number and the
+// place of the item at fault.
 use cbor::Class;
 use cbor::Count;
 use cbor::Span;
+use cidr::Cidr;
+use keys::Key;
+use keys::Names;
+use scope::Methods;
 use values::Item;
 ghost use mathlib.Core.Path.{_≡_};
-ghost use Rattle.values.specs.Reading.{itemsOf};
-ghost use Rattle.caveat.specs.Keys.{indexOfKey, keyAt, wantedKey};
-ghost use Rattle.caveat.specs.declared.Map.the-variants.{Scope, Caveat, Rate, Custom};
-ghost use Rattle.caveat.specs.Methods.{methodAt, methodsOf};
+ghost use Rattle.cbor.specs.declared.Class.{Class};
+ghost use Rattle.caveat.specs.Reading.{numbered, worded, numberValue, textValue, digestValue};
+ghost use Rattle.caveat.specs.Reading.{methodValue, cidrValue, rateValue, amnesiaValue, customThen, customValue};
+ghost use Rattle.caveat.specs.Reading.{valueAt, caveatOf};
 
-// How many methods a list has, where the first begins and where the last ends.
-pub enum Methods {
-    Of { count: u64, from: usize, to: usize },
+// A caveat by value: its numbers, and where its strings and lists lie in the part.
+pub enum Caveat {
+    Exp {
+        n: u64,
+    },
+    Nbf {
+        n: u64,
+    },
+    Aud {
+        from: usize,
+        to: usize,
+    },
+    Method {
+        count: u64,
+        from: usize,
+        to: usize,
+    },
+    PathPrefix {
+        from: usize,
+        to: usize,
+    },
+    IpCidr {
+        a: u32,
+        b: u32,
+        c: u32,
+        d: u32,
+        n: u32,
+    },
+    BytesLe {
+        n: u64,
+    },
+    Rate {
+        per_s: u64,
+        burst: u64,
+    },
+    Tenant {
+        from: usize,
+        to: usize,
+    },
+    Amnesia {
+        on: bool,
+    },
+    GovPolicyDigest {
+        from: usize,
+        to: usize,
+    },
+    Custom {
+        ns: usize,
+        ns_end: usize,
+        value: usize,
+        value_end: usize,
+        name: usize,
+        name_end: usize,
+    },
+}
+
+// A caveat and its length, or what is wrong with it.
+pub enum CaveatParts {
+    Of { caveat: Caveat, next: usize },
     Bad { kind: u32, at: usize },
 }
 
-// The maps with keys of their own.
-pub enum Map {
-    Scope,
-    Caveat,
-    Rate,
-    Custom,
-}
-
-// A key by its place in its map's order, and where it ends.
-pub enum Key {
-    Of { index: u32, next: usize },
-    Bad { kind: u32, at: usize },
-}
-
-fn scope_key(c: &[u8]) -> u32
-    ensures { λ r. ⌜ r ≡ indexOfKey Scope (now (c .entry)) ⌝ }
+// Which caveat a number is the value of.
+fn numbered(t: u32, n: u64) -> Caveat
+    ensures { λ r. ⌜ r ≡ numbered t n ⌝ }
 {
-    if basis::same(c, b"prefix") {
-        return 0;
+    match t {
+        0 => Caveat::Exp { n },
+        1 => Caveat::Nbf { n },
+        _ => Caveat::BytesLe { n },
     }
-    if basis::same(c, b"methods") {
-        return 1;
-    }
-    if basis::same(c, b"max_bytes") {
-        return 2;
-    }
-    16
 }
 
-fn caveat_key(c: &[u8]) -> u32
-    ensures { λ r. ⌜ r ≡ indexOfKey Caveat (now (c .entry)) ⌝ }
+// Which caveat a text is the value of.
+fn worded(t: u32, from: usize, to: usize) -> Caveat
+    ensures { λ r. ⌜ r ≡ worded t from to ⌝ }
 {
-    if basis::same(c, b"t") {
-        return 0;
+    match t {
+        2 => Caveat::Aud { from, to },
+        4 => Caveat::PathPrefix { from, to },
+        _ => Caveat::Tenant { from, to },
     }
-    if basis::same(c, b"v") {
-        return 1;
-    }
-    16
 }
 
-fn rate_key(c: &[u8]) -> u32
-    ensures { λ r. ⌜ r ≡ indexOfKey Rate (now (c .entry)) ⌝ }
+fn number_value(s: &[u8], at: usize, t: u32) -> CaveatParts
+    ensures { λ r. ⌜ r ≡ numberValue (now (s .entry)) t at ⌝ }
 {
-    if basis::same(c, b"burst") {
-        return 0;
+    match cbor::read_count(s, at, 0, 0, 0xffff_ffff_ffff_ffff, 5) {
+        Count::Bad { kind, at: a } => CaveatParts::Bad { kind, at: a },
+        Count::Of { n, next } => {
+            let caveat = numbered(t, n);
+            CaveatParts::Of { caveat, next }
+        }
     }
-    if basis::same(c, b"per_s") {
-        return 1;
-    }
-    16
 }
 
-fn custom_key(c: &[u8]) -> u32
-    ensures { λ r. ⌜ r ≡ indexOfKey Custom (now (c .entry)) ⌝ }
+fn text_value(s: &[u8], at: usize, t: u32, class: Class, high: u64) -> CaveatParts
+    ensures { λ r. ⌜ r ≡ textValue (now (s .entry)) t class high at ⌝ }
 {
-    if basis::same(c, b"ns") {
-        return 0;
+    match cbor::read_string(s, at, class, 1, high) {
+        Span::Bad { kind, at: a } => CaveatParts::Bad { kind, at: a },
+        Span::Of { from, to } => {
+            let caveat = worded(t, from, to);
+            CaveatParts::Of { caveat, next: to }
+        }
     }
-    if basis::same(c, b"cbor") {
-        return 1;
-    }
-    if basis::same(c, b"name") {
-        return 2;
-    }
-    16
 }
 
-fn key_index(map: Map, c: &[u8]) -> u32
-    ensures { λ r. ⌜ r ≡ indexOfKey map (now (c .entry)) ⌝ }
+// A digest has no range of its own: a wrong length is a defect of form like any other.
+fn digest_value(s: &[u8], at: usize) -> CaveatParts
+    ensures { λ r. ⌜ r ≡ digestValue (now (s .entry)) at ⌝ }
 {
-    match map {
-        Map::Scope => scope_key(c),
-        Map::Caveat => caveat_key(c),
-        Map::Rate => rate_key(c),
-        Map::Custom => custom_key(c),
+    match cbor::read_string(s, at, Class::Hex, 64, 64) {
+        Span::Bad { kind: _, at: a } => CaveatParts::Bad { kind: 4, at: a },
+        Span::Of { from, to } => CaveatParts::Of {
+            caveat: Caveat::GovPolicyDigest { from, to },
+            next: to,
+        },
     }
 }
 
-pub fn key_at(s: &[u8], at: usize, map: Map) -> Key
-    ensures { λ r. ⌜ r ≡ keyAt map (now (s .entry)) at ⌝ }
+fn method_value(s: &[u8], at: usize) -> CaveatParts
+    ensures { λ r. ⌜ r ≡ methodValue (now (s .entry)) at ⌝ }
+{
+    match scope::read_methods(s, at) {
+        Methods::Bad { kind, at: a } => CaveatParts::Bad { kind, at: a },
+        Methods::Of { count, from, to } => CaveatParts::Of {
+            caveat: Caveat::Method { count, from, to },
+            next: to,
+        },
+    }
+}
+
+fn cidr_value(s: &[u8], at: usize) -> CaveatParts
+    ensures { λ r. ⌜ r ≡ cidrValue (now (s .entry)) at ⌝ }
 {
     match cbor::read_run(s, at, 3, 0, 0xffff_ffff_ffff_ffff) {
-        Span::Bad { kind, at: a } => Key::Bad { kind, at: a },
-        Span::Of { from, to } => {
-            let index = key_index(map, &s[from..to]);
-            if index == 16 {
-                return Key::Bad { kind: 6, at };
-            }
-            Key::Of { index, next: to }
-        }
+        Span::Bad { kind, at: a } => CaveatParts::Bad { kind, at: a },
+        Span::Of { from, to } => match cidr::read_cidr(&s[from..to]) {
+            Cidr::Bad => CaveatParts::Bad { kind: 4, at: from },
+            Cidr::Of { a, b, c, d, n } => CaveatParts::Of {
+                caveat: Caveat::IpCidr { a, b, c, d, n },
+                next: to,
+            },
+        },
     }
 }
 
-pub fn wanted_key(s: &[u8], at: usize, map: Map, want: u32) -> Item
-    ensures { λ r. ⌜ r ≡ wantedKey map (now (s .entry)) at want ⌝ }
+fn rate_value(s: &[u8], at: usize) -> CaveatParts
+    ensures { λ r. ⌜ r ≡ rateValue (now (s .entry)) at ⌝ }
 {
-    match key_at(s, at, map) {
-        Key::Bad { kind, at: a } => Item::Bad { kind, at: a },
-        Key::Of { index, next } => {
-            if index == want {
-                return Item::End { next };
-            }
-            Item::Bad { kind: 4, at }
-        }
+    match cbor::read_count(s, at, 5, 2, 2, 6) {
+        Count::Bad { kind, at: a } => CaveatParts::Bad { kind, at: a },
+        Count::Of { n: _, next: p } => match keys::number_field(s, p, Names::Rate, 0, 0xffff_ffff) {
+            Count::Bad { kind, at: a } => CaveatParts::Bad { kind, at: a },
+            Count::Of { n: burst, next: q } => match keys::number_field(
+                s,
+                q,
+                Names::Rate,
+                1,
+                0xffff_ffff,
+            ) {
+                Count::Bad { kind, at: a } => CaveatParts::Bad { kind, at: a },
+                Count::Of { n: per_s, next } => CaveatParts::Of {
+                    caveat: Caveat::Rate { per_s, burst },
+                    next,
+                },
+            },
+        },
     }
 }
 
-fn method_at(s: &[u8], at: usize) -> Item
-    ensures { λ r. ⌜ r ≡ methodAt (now (s .entry)) at ⌝ }
+fn amnesia_value(s: &[u8], at: usize) -> CaveatParts
+    ensures { λ r. ⌜ r ≡ amnesiaValue (now (s .entry)) at ⌝ }
 {
-    match cbor::read_string(s, at, Class::Upper, 1, 16) {
-        Span::Of { from: _, to } => Item::End { next: to },
-        Span::Bad { kind, at: a } => Item::Bad { kind, at: a },
+    match cbor::read_count(s, at, 7, 20, 21, 4) {
+        Count::Bad { kind, at: a } => CaveatParts::Bad { kind, at: a },
+        Count::Of { n, next } => CaveatParts::Of {
+            caveat: Caveat::Amnesia { on: n == 21 },
+            next,
+        },
     }
 }
 
-fn methods_end(s: &[u8], from: usize, count: u64) -> Item
-    ensures { λ r. ⌜ r ≡ itemsOf (methodAt (now (s .entry))) count from ⌝ }
+fn custom_value(s: &[u8], at: usize) -> CaveatParts
+    ensures { λ r. ⌜ r ≡ customValue (now (s .entry)) at ⌝ }
 {
-    let mut p = from;
-    let mut k = count;
-    while 0 < k {
-        match method_at(s, p) {
-            Item::Bad { kind, at } => {
-                return Item::Bad { kind, at };
-            }
-            Item::End { next } => {
-                p = next;
-            }
-        }
-        k -= 1;
+    match cbor::read_count(s, at, 5, 3, 3, 6) {
+        Count::Bad { kind, at: a } => CaveatParts::Bad { kind, at: a },
+        Count::Of { n: _, next: p } => match keys::name_field(s, p, Names::Custom, 0) {
+            Span::Bad { kind, at: a } => CaveatParts::Bad { kind, at: a },
+            Span::Of {
+                from: ns,
+                to: ns_end,
+            } => match keys::wanted_key(s, ns_end, Names::Custom, 1) {
+                Item::Bad { kind, at: a } => CaveatParts::Bad { kind, at: a },
+                Item::End { next: value } => custom_then(s, ns, ns_end, value),
+            },
+        },
     }
-    Item::End { next: p }
 }
 
-pub fn read_methods(s: &[u8], at: usize) -> Methods
-    ensures { λ r. ⌜ r ≡ methodsOf (now (s .entry)) at ⌝ }
+// Where the value is at `value`, behind its ns.
+fn custom_then(s: &[u8], ns: usize, to: usize, value: usize) -> CaveatParts
+    ensures { λ r. ⌜ r ≡ customThen (now (s .entry)) ns to value ⌝ }
 {
-    let count = cbor::read_count(s, at, 4, 0, 16, 5);
-    match count {
-        Count::Bad { kind, at: a } => Methods::Bad { kind, at: a },
-        Count::Of { n, next: from } => match methods_end(s, from, n) {
-            Item::Bad { kind, at: a } => Methods::Bad { kind, at: a },
-            Item::End { next: to } => Methods::Of { count: n, from, to },
+    match values::read_value(s, value, 4) {
+        Item::Bad { kind, at: a } => CaveatParts::Bad { kind, at: a },
+        Item::End { next: value_end } => match keys::name_field(s, value_end, Names::Custom, 2) {
+            Span::Bad { kind, at: a } => CaveatParts::Bad { kind, at: a },
+            Span::Of {
+                from: name,
+                to: name_end,
+            } => CaveatParts::Of {
+                caveat: Caveat::Custom {
+                    ns,
+                    ns_end: to,
+                    value,
+                    value_end,
+                    name,
+                    name_end,
+                },
+                next: name_end,
+            },
+        },
+    }
+}
+
+// The value of a caveat by its t, which is told by its index among the names.
+fn value_at(s: &[u8], at: usize, t: u32) -> CaveatParts
+    ensures { λ r. ⌜ r ≡ valueAt (now (s .entry)) t at ⌝ }
+{
+    match t {
+        2 => text_value(s, at, 2, Class::Printable, 128),
+        3 => method_value(s, at),
+        4 => text_value(s, at, 4, Class::Path, 256),
+        5 => cidr_value(s, at),
+        7 => rate_value(s, at),
+        8 => text_value(s, at, 8, Class::Name, 64),
+        9 => amnesia_value(s, at),
+        10 => digest_value(s, at),
+        11 => custom_value(s, at),
+        _ => number_value(s, at, t),
+    }
+}
+
+pub fn read_caveat(s: &[u8]) -> CaveatParts
+    ensures { λ r. ⌜ r ≡ caveatOf (now (s .entry)) ⌝ }
+{
+    match cbor::read_count(s, 0, 5, 2, 2, 6) {
+        Count::Bad { kind, at: a } => CaveatParts::Bad { kind, at: a },
+        Count::Of { n: _, next: p } => match keys::wanted_key(s, p, Names::Caveat, 0) {
+            Item::Bad { kind, at: a } => CaveatParts::Bad { kind, at: a },
+            Item::End { next: q } => match keys::key_at(s, q, Names::T) {
+                Key::Bad { kind, at: a } => CaveatParts::Bad { kind, at: a },
+                Key::Of { index: t, next: p2 } => match keys::wanted_key(s, p2, Names::Caveat, 1) {
+                    Item::Bad { kind, at: a } => CaveatParts::Bad { kind, at: a },
+                    Item::End { next: v } => value_at(s, v, t),
+                },
+            },
         },
     }
 }

@@ -6,8 +6,8 @@ use Rattle.basis.specs.Basis.{ascii}
 use Rattle.bytes.specs.Bytes.{indexOf, indexAfter}
 use Rattle.cbor.specs.Heads.{big, head, numberFrom, widthOf, headBy, headAt, readHead}
 use Rattle.cbor.specs.declared.Head.the-variants.{Bad}
-use Rattle.caveat.specs.Maps.{texts}
-use Rattle.caveat.specs.Scopes.{encodeMethods, encodeScope}
+use Rattle.keys.specs.Maps.{texts}
+use Rattle.scope.specs.Scopes.{encodeMethods, encodeScope}
 use Rattle.base64url.specs.Base64url.{letterOf, base64url}
 use Rattle.base64url.specs.Reading.{digitOf, badAt, unusedOf, judgedOf}
 use Rattle.base64url.specs.declared.Judged.the-variants.{Fault}

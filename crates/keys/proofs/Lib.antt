@@ -1,0 +1,5 @@
+pub mod KeyLaws
+pub mod TextLaws
+pub mod StepLaws
+pub mod FieldLaws
+pub mod OneAnswer

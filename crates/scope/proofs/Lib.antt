@@ -1,0 +1,4 @@
+pub mod Lengths
+pub mod MethodLaws
+pub mod ScopeLaws
+pub mod OneAnswer

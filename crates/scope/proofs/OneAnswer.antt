@@ -1,0 +1,10 @@
+-- Each public function has one result for its arguments.
+use mathlib.Core.Path.{_≡_}
+use mathlib.Core.List.{List}
+use Prim.Native.Nat.{ℕ}
+use Rattle.basis.proofs.OneAnswer.{told}
+use Rattle.scope.specs.Methods.{methodsOf}
+use Rattle.scope.specs.declared.Methods.{Methods}
+
+pub read-methods-one-answer : (bytes : List ℕ) (at : ℕ) {r s : Methods} → r ≡ methodsOf bytes at → s ≡ methodsOf bytes at → r ≡ s
+read-methods-one-answer bytes at p q = told p q

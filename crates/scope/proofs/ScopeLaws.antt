@@ -1,0 +1,359 @@
+-- Scopes both ways: one within limits that was written reads back, and what reads well is exactly one such scope, written.
+use mathlib.Core.Path.{_≡_, refl, sym, ap, subst, _∙_}
+use mathlib.Core.Bool.{Bool, true, false}
+use mathlib.Core.List.{List, [], _∷_, _++_, append-assoc}
+use mathlib.Core.Option.{Option, some, none}
+use Prim.Native.Nat.{ℕ, zero, suc, _+_, _-_, _^_, _≤_, _<_}
+use native.Mathlib.Nat.{add-zero}
+use native.Mathlib.Omega.{arith}
+use borrow.Author.Tests.{eqb-true, eqb-false, ltb-false, eq-eqb, ne-eqb, le-ltb}
+use lib.Dec.{eqb, ltb}
+use lib.ListN.{length, take, drop, getD, length-append}
+use Rattle.basis.specs.Basis.{pick, ascii, IsBytes}
+use Rattle.basis.specs.Same.{sameOf}
+use Rattle.basis.proofs.Parts.{past, ends, on}
+use Rattle.cbor.specs.Heads.{head}
+use Rattle.cbor.specs.Strings.{readString}
+use Rattle.cbor.specs.Counts.{readCount}
+use Rattle.cbor.specs.declared.Class.the-variants.{Path}
+use Rattle.cbor.specs.declared.Count.the-variants.{Of as Counted}
+use Rattle.cbor.proofs.CountLaws.{head-there, there-head, count, counted}
+use Rattle.keys.specs.Keys.{keysOf, indexFrom, keyAt, wantedKey}
+use Rattle.keys.specs.Fields.{numberField}
+use Rattle.keys.specs.Maps.{text, texts, entry, entryIf, present, IfPresent}
+use Rattle.keys.specs.Steps.{afterItem, afterKey, afterCount}
+use Rattle.keys.specs.declared.Key.the-variants.{Of as Known}
+use Rattle.keys.specs.declared.Names.the-variants.{Scope as ScopeKeys}
+use Rattle.keys.proofs.KeyLaws.{key-written, key-read, index-name, wanted-written, wanted-read}
+use Rattle.keys.proofs.FieldLaws.{number-field-written, number-field-read}
+use Rattle.keys.proofs.TextLaws.{text-written, text-held, text-read}
+use Rattle.keys.proofs.StepLaws.{count-went, key-went, span-went, item-went, must-take, must-pass}
+use Rattle.scope.specs.Scopes.{Scope, encodeMethods, encodeScope, GoodMethods, GoodPath, Number64, GoodScope}
+use Rattle.scope.specs.Methods.{methodsOf, afterMethods}
+use Rattle.scope.specs.Reading.{anotherThen, maxBytesThen, limitThen, methodsThen, methodsNext, prefixNext, prefixThen, firstThen, entriesThen, scopeOf}
+use Rattle.scope.specs.declared.Methods.{Methods}
+use Rattle.scope.specs.declared.Methods.the-variants.{Of as MethodsAt, Bad as NoMethods}
+use Rattle.scope.specs.declared.Prefix.{Prefix}
+use Rattle.scope.specs.declared.Prefix.the-variants.{Absent as NoPrefix, Of as PrefixAt}
+use Rattle.scope.specs.declared.Limit.{Limit}
+use Rattle.scope.specs.declared.Limit.the-variants.{Absent as NoLimit, Of as AtMost}
+use Rattle.scope.specs.declared.ScopeParts.{ScopeParts}
+use Rattle.scope.specs.declared.ScopeParts.the-variants.{Of, Bad}
+use Rattle.scope.proofs.MethodLaws.{methods-written, methods-read}
+
+abbrev pub limitOf : Option ℕ → Limit
+limitOf none = NoLimit
+limitOf (some n) = AtMost n
+
+-- the prefix's content stands where it was found
+abbrev pub PrefixHeld : List ℕ → Option (List ℕ) → Prefix → Type 0
+PrefixHeld s none NoPrefix = Unit {0}
+PrefixHeld s none (PrefixAt from to) = ⊥
+PrefixHeld s (some p) NoPrefix = ⊥
+PrefixHeld s (some p) (PrefixAt from to) = take (to - from) (drop from s) ≡ p
+
+-- the parts that a reading answers hold exactly the scope's
+pub record Holds (s : List ℕ) (x : Scope) (part : Prefix) (k from to : ℕ) (limit : Limit) : Type 0 where
+  pub prefix-held : PrefixHeld s (x .prefix) part
+  pub counted-so : length (x .methods) ≡ k
+  pub methods-held : drop from s ≡ texts (x .methods) ++ drop to s
+  pub limit-held : limitOf (x .max-bytes) ≡ limit
+
+limit-written : (mb : Option ℕ) → IfPresent Number64 mb → (s rest : List ℕ) (p : Prefix) (k from to : ℕ) → drop to s ≡ entryIf "max_bytes" (head 0) mb ++ rest
+    → limitThen s p k from to (present mb) ≡ Of p k from to (limitOf mb) (to + length (entryIf "max_bytes" (head 0) mb))
+unfolding limitThen maxBytesThen keysOf indexFrom sameOf
+limit-written none g s rest p k from to e = ap (Of p k from to NoLimit) (sym (add-zero to))
+limit-written (some n) g s rest p k from to e =
+    rw (number-field-written ScopeKeys 2 (omega arith) (ascii "max_bytes") (omega arith) refl s rest to n 0xffffffffffffffff (omega arith) g e)
+
+module _ (ms : List (List ℕ)) (gm : GoodMethods ms) (mb : Option ℕ) (gb : IfPresent Number64 mb) (s rest : List ℕ) (p : Prefix) (at : ℕ) where
+  abbrev tail : List ℕ
+  tail = encodeMethods ms ++ entryIf "max_bytes" (head 0) mb
+
+  abbrev behind : ℕ
+  behind = at + length (encodeMethods ms)
+
+  -- methods and max_bytes, from the methods' value on
+  tail-written : drop at s ≡ tail ++ rest
+      → methodsThen s p (present mb) at ≡ Of p (length ms) (at + length (head 4 (length ms))) behind (limitOf mb) (at + length tail)
+  unfolding methodsThen
+  tail-written e =
+      let l = entryIf "max_bytes" (head 0) mb in
+      let f = e ∙ append-assoc (encodeMethods ms) l rest in
+      let d = past s (encodeMethods ms) (l ++ rest) at f in
+      rw (methods-written ms gm s (l ++ rest) at f)
+      (limit-written mb gb s rest p (length ms) (at + length (head 4 (length ms))) behind d
+      ∙ ap (Of p (length ms) (at + length (head 4 (length ms))) behind (limitOf mb)) (ends (encodeMethods ms) l at))
+
+-- what a reading found of a scope that stands at `at`
+pub record Written (s : List ℕ) (at : ℕ) (x : Scope) : Type 0 where
+  pub part : Prefix
+  pub from : ℕ
+  pub to : ℕ
+  pub answer : scopeOf s at ≡ Of part (length (x .methods)) from to (limitOf (x .max-bytes)) (at + length (encodeScope x))
+  pub holds : Holds s x part (length (x .methods)) from to (limitOf (x .max-bytes))
+
+few : (mb : Option ℕ) → present mb ≤ 1
+few none = omega arith
+few (some n) = omega arith
+
+abbrev scope : Option (List ℕ) → List (List ℕ) → Option ℕ → Scope
+scope o ms mb = record { prefix = o; methods = ms; max-bytes = mb }
+
+module _ (ms : List (List ℕ)) (gm : GoodMethods ms) (mb : Option ℕ) (gb : IfPresent Number64 mb) (s rest : List ℕ) (at : ℕ) where
+  abbrev key : List ℕ
+  key = text (ascii "methods")
+
+  abbrev list : List ℕ
+  list = encodeMethods ms
+
+  abbrev limit : List ℕ
+  limit = entryIf "max_bytes" (head 0) mb
+
+  -- the methods lie behind their array's head
+  methods-lie : (p : ℕ) (r : List ℕ) → drop p s ≡ list ++ r → drop (p + length (head 4 (length ms))) s ≡ texts ms ++ drop (p + length list) s
+  unfolding encodeMethods
+  methods-lie p r e =
+      let h = head 4 (length ms) in
+      past s h (texts ms ++ drop (p + length list) s) p (e ∙ rw (past s list r p e, append-assoc))
+
+  without : drop at s ≡ encodeScope (scope none ms mb) ++ rest → Written s at (scope none ms mb)
+  unfolding encodeScope scopeOf entriesThen firstThen keysOf indexFrom sameOf
+  without e =
+      let n = 0 + 1 + present mb in
+      let q : n - 1 ≡ present mb = omega arith in
+      let h = head 5 n in
+      let m = few mb in
+      let d0 : drop at s ≡ h ++ (key ++ ((list ++ limit) ++ rest)) = simp append-assoc (simp append-assoc at e) in
+      let a1 = at + length h in
+      let d1 = past s h (key ++ ((list ++ limit) ++ rest)) at d0 in
+      let a2 = a1 + length key in
+      let d2 = past s key ((list ++ limit) ++ rest) a1 d1 in
+      let c = sym (count s at 5 1 3 6 (head-there s (key ++ ((list ++ limit) ++ rest)) at 5 n d0 (omega arith)) refl (omega arith) (omega arith)) in
+      let k = key-written ScopeKeys (ascii "methods") (omega arith) 1 refl (omega arith) s ((list ++ limit) ++ rest) a1 d1 in
+      let t = tail-written ms gm mb gb s rest NoPrefix a2 d2 in
+      record {
+        part = NoPrefix;
+        from = a2 + length (head 4 (length ms));
+        to = a2 + length list;
+        answer = rw (c, k, q) (t ∙ ap (Of NoPrefix (length ms) (a2 + length (head 4 (length ms))) (a2 + length list) (limitOf mb)) (simp length-append (omega arith)));
+        holds = record { prefix-held = tt; counted-so = refl; methods-held = methods-lie a2 (limit ++ rest) (d2 ∙ append-assoc list limit rest); limit-held = refl };
+      }
+
+  within : (p : List ℕ) → GoodPath p → drop at s ≡ encodeScope (scope (some p) ms mb) ++ rest → Written s at (scope (some p) ms mb)
+  unfolding encodeScope scopeOf entriesThen firstThen prefixThen prefixNext keysOf indexFrom sameOf
+  within p gp e =
+      let n = 1 + 1 + present mb in
+      let q : n - 2 ≡ present mb = omega arith in
+      let h = head 5 n in
+      let m = few mb in
+      let lp = gp .most in
+      let first = text (ascii "prefix") in
+      let d0 : drop at s ≡ h ++ (first ++ (text p ++ (key ++ ((list ++ limit) ++ rest)))) = simp append-assoc (simp append-assoc at e) in
+      let a1 = at + length h in
+      let d1 = past s h (first ++ (text p ++ (key ++ ((list ++ limit) ++ rest)))) at d0 in
+      let a2 = a1 + length first in
+      let d2 = past s first (text p ++ (key ++ ((list ++ limit) ++ rest))) a1 d1 in
+      let from = a2 + length (head 3 (length p)) in
+      let a3 = a2 + length (text p) in
+      let d3 = past s (text p) (key ++ ((list ++ limit) ++ rest)) a2 d2 in
+      let a4 = a3 + length key in
+      let d4 = past s key ((list ++ limit) ++ rest) a3 d3 in
+      let c = sym (count s at 5 1 3 6 (head-there s (first ++ (text p ++ (key ++ ((list ++ limit) ++ rest)))) at 5 n d0 (omega arith)) refl (omega arith) (omega arith)) in
+      let k = key-written ScopeKeys (ascii "prefix") (omega arith) 0 refl (omega arith) s (text p ++ (key ++ ((list ++ limit) ++ rest))) a1 d1 in
+      let x = text-written Path 1 256 p gp (omega arith) s (key ++ ((list ++ limit) ++ rest)) a2 d2 in
+      let w = wanted-written ScopeKeys (ascii "methods") (omega arith) 1 refl (omega arith) s ((list ++ limit) ++ rest) a3 d3 in
+      let t = tail-written ms gm mb gb s rest (PrefixAt from a3) a4 d4 in
+      record {
+        part = PrefixAt from a3;
+        from = a4 + length (head 4 (length ms));
+        to = a4 + length list;
+        answer =
+            rw (c, k, x, le-ltb n 2 (omega arith), w, q)
+            (t ∙ ap (Of (PrefixAt from a3) (length ms) (a4 + length (head 4 (length ms))) (a4 + length list) (limitOf mb)) (simp length-append (omega arith)));
+        holds = record {
+          prefix-held = text-held p (omega arith) s (key ++ ((list ++ limit) ++ rest)) a2 d2;
+          counted-so = refl;
+          methods-held = methods-lie a4 (limit ++ rest) (d4 ∙ append-assoc list limit rest);
+          limit-held = refl;
+        };
+      }
+
+scope-by : (o : Option (List ℕ)) (ms : List (List ℕ)) (mb : Option ℕ) → GoodScope (scope o ms mb) → (s rest : List ℕ) (at : ℕ)
+    → drop at s ≡ encodeScope (scope o ms mb) ++ rest → Written s at (scope o ms mb)
+scope-by none ms mb g s rest at e = without ms (g .good-methods) mb (g .good-max-bytes) s rest at e
+scope-by (some p) ms mb g s rest at e = within ms (g .good-methods) mb (g .good-max-bytes) s rest at p (g .good-prefix) e
+
+pub scope-written : (x : Scope) → GoodScope x → (s rest : List ℕ) (at : ℕ) → drop at s ≡ encodeScope x ++ rest → Written s at x
+scope-written x g s rest at e = scope-by (x .prefix) (x .methods) (x .max-bytes) g s rest at e
+
+-- a scope within limits stands from `at` to `next`, and the parts hold what is its
+pub record IsScope (s : List ℕ) (at : ℕ) (part : Prefix) (k from to : ℕ) (limit : Limit) (next : ℕ) : Type 0 where
+  pub tree : Scope
+  pub good : GoodScope tree
+  pub there : drop at s ≡ encodeScope tree ++ drop next s
+  pub holds : Holds s tree part k from to limit
+
+-- methods and max_bytes from `at` to `next`, `left` entries behind the methods
+record IsTail (s : List ℕ) (at left : ℕ) (k from to : ℕ) (limit : Limit) (next : ℕ) : Type 0 where
+  pub methods : List (List ℕ)
+  pub max-bytes : Option ℕ
+  pub good-methods : GoodMethods methods
+  pub good-max-bytes : IfPresent Number64 max-bytes
+  pub counted-so : length methods ≡ k
+  pub left-so : present max-bytes ≡ left
+  pub held : drop from s ≡ texts methods ++ drop to s
+  pub limit-held : limitOf max-bytes ≡ limit
+  pub there : drop at s ≡ encodeMethods methods ++ (entryIf "max_bytes" (head 0) max-bytes ++ drop next s)
+
+record MethodsWent (s : List ℕ) (at : ℕ) {A : Type 0} (rest : ℕ → ℕ → ℕ → A) (x : A) : Type 0 where
+  pub count : ℕ
+  pub first : ℕ
+  pub behind : ℕ
+  pub was : methodsOf s at ≡ MethodsAt count first behind
+  pub goes : rest count first behind ≡ x
+
+module _ (s : List ℕ) (b : IsBytes s) (part : Prefix) (k from to : ℕ) (limit : Limit) (next : ℕ) where
+  abbrev Ended : ScopeParts → Type 0
+  Ended r = r ≡ Of part k from to limit next
+
+  never : (kind at : ℕ) → Bad kind at ≡ Of part k from to limit next → ⊥
+  never kind at e = let z : _≡_ {A = ℕ} 0 1 = cc in omega arith
+
+  methods-went : (at : ℕ) (rest : ℕ → ℕ → ℕ → ScopeParts) (m : Methods) → methodsOf s at ≡ m → Ended (afterMethods Bad rest m) → MethodsWent s at rest (Of part k from to limit next)
+  methods-went at rest (NoMethods kind a) p e = let z = never kind a e in elim z [ ]
+  methods-went at rest (MethodsAt c f t) p e = record { count = c; first = f; behind = t; was = p; goes = e }
+
+  another : (at : ℕ) → Ended (afterKey Bad (anotherThen at) (keyAt ScopeKeys s at)) → ⊥
+  unfolding anotherThen
+  another at e = let w = key-went never (anotherThen at) (keyAt ScopeKeys s at) e in never 4 at (w .goes)
+
+  module _ (at c f t : ℕ) (m : methodsOf s at ≡ MethodsAt c f t) (p : Prefix) where
+    ends-there : (left : ℕ) → left ≡ 0 → Ended (Of p c f t NoLimit t) → (p ≡ part) × IsTail s at left k from to limit next
+    ends-there left z e =
+        let v = methods-read s b at m in
+        let x1 : p ≡ part = cc in
+        let x2 : c ≡ k = cc in
+        let x3 : f ≡ from = cc in
+        let x4 : t ≡ to = cc in
+        let x5 : NoLimit ≡ limit = cc in
+        let x6 : t ≡ next = cc in (
+          x1,
+          record {
+            methods = v .methods;
+            max-bytes = none;
+            good-methods = v .good;
+            good-max-bytes = tt;
+            counted-so = v .few ∙ x2;
+            left-so = sym z;
+            held = rw (← x3, ← x4) (v .begins);
+            limit-held = x5;
+            there = rw (← x6) (v .there);
+          },
+        )
+
+    max-there : (left : ℕ) → left ≡ 1 → (n q : ℕ) → numberField ScopeKeys s t 2 0xffffffffffffffff ≡ Counted n q → Ended (Of p c f t (AtMost n) q)
+        → (p ≡ part) × IsTail s at left k from to limit next
+    unfolding keysOf
+    max-there left z n q r e =
+        let v = methods-read s b at m in
+        let u = number-field-read ScopeKeys 2 (omega arith) s b t 0xffffffffffffffff r in
+        let x1 : p ≡ part = cc in
+        let x2 : c ≡ k = cc in
+        let x3 : f ≡ from = cc in
+        let x4 : t ≡ to = cc in
+        let x5 : AtMost n ≡ limit = cc in
+        let x6 : q ≡ next = cc in (
+          x1,
+          record {
+            methods = v .methods;
+            max-bytes = some n;
+            good-methods = v .good;
+            good-max-bytes = omega (arith, u .few);
+            counted-so = v .few ∙ x2;
+            left-so = sym z;
+            held = rw (← x3, ← x4) (v .begins);
+            limit-held = x5;
+            there = rw (← x6, ← u .there) (v .there);
+          },
+        )
+
+    behind-methods : (left : ℕ) (y : Bool) → eqb left 0 ≡ y
+        → Ended (pick y (Of p c f t NoLimit t) (afterCount Bad (maxBytesThen s p c f t left) (numberField ScopeKeys s t 2 0xffffffffffffffff)))
+        → (p ≡ part) × IsTail s at left k from to limit next
+    unfolding maxBytesThen
+    behind-methods left true y e = ends-there left (eqb-true left 0 y) e
+    behind-methods left false y e =
+        let w = count-went never (maxBytesThen s p c f t left) (numberField ScopeKeys s t 2 0xffffffffffffffff) e in
+        let l = must-take (Of p c f t (AtMost (w .n)) (w .next)) (afterKey Bad (anotherThen (w .next)) (keyAt ScopeKeys s (w .next))) (another (w .next)) (eqb left 1) (w .goes) in
+        max-there left (eqb-true left 1 (l .0)) (w .n) (w .next) (w .was) (l .1)
+
+  tail-read : (at : ℕ) (p : Prefix) (left : ℕ) → Ended (methodsThen s p left at) → (p ≡ part) × IsTail s at left k from to limit next
+  unfolding methodsThen limitThen
+  tail-read at p left e =
+      let w = methods-went at (methodsNext s p left) (methodsOf s at) refl e in
+      behind-methods at (w .count) (w .first) (w .behind) (w .was) p left (eqb left 0) refl (w .goes)
+
+  -- a key by its index
+  key-there : (p i q : ℕ) → i < 16 → keyAt ScopeKeys s p ≡ Known i q → drop p s ≡ text (ascii (getD (keysOf ScopeKeys) i "")) ++ drop q s
+  key-there p i q h d =
+      let y = key-read ScopeKeys s b p d in
+      let z : i - 0 ≡ i = omega arith in
+      let n : y .content ≡ ascii (getD (keysOf ScopeKeys) i "") = rw z at (index-name (keysOf ScopeKeys) 0 (y .content) (y .indexed) h) in
+      rw (← n) (y .there)
+
+  first-methods : (at n p q : ℕ) → readCount s at 5 1 3 6 ≡ Counted n p → keyAt ScopeKeys s p ≡ Known 1 q → Ended (methodsThen s NoPrefix (n - 1) q)
+      → IsScope s at part k from to limit next
+  unfolding encodeScope keysOf
+  first-methods at n p q c d e =
+      let h = counted s at 5 1 3 6 c in
+      let t = tail-read q NoPrefix (n - 1) e in
+      let v = t .1 in
+      let w : n ≡ 0 + 1 + present (v .max-bytes) = rw (v .left-so) (omega (arith, h .enough)) in
+      let x = on (head 5 n) (there-head s b at (h .headed)) (on (text (ascii "methods")) (key-there p 1 q (omega arith) d) (v .there)) in
+      record {
+        tree = record { prefix = none; methods = v .methods; max-bytes = v .max-bytes };
+        good = record { good-prefix = tt; good-methods = v .good-methods; good-max-bytes = v .good-max-bytes };
+        there = rw (← w) (simp append-assoc (simp append-assoc at x));
+        holds = record { prefix-held = subst (PrefixHeld s none) (t .0) tt; counted-so = v .counted-so; methods-held = v .held; limit-held = v .limit-held };
+      }
+
+  first-prefix : (at n p q : ℕ) → readCount s at 5 1 3 6 ≡ Counted n p → keyAt ScopeKeys s p ≡ Known 0 q → Ended (prefixThen s at n q)
+      → IsScope s at part k from to limit next
+  unfolding encodeScope keysOf prefixThen prefixNext
+  first-prefix at n p q c d e =
+      let h = counted s at 5 1 3 6 c in
+      let f = span-went never (prefixNext s at n) (readString s q Path 1 256) e in
+      let g = must-pass (Bad 4 at) (afterItem Bad (methodsThen s (PrefixAt (f .from) (f .to)) (n - 2)) (wantedKey ScopeKeys s (f .to) 1)) (never 4 at) (ltb n 2) (f .goes) in
+      let i = item-went never (methodsThen s (PrefixAt (f .from) (f .to)) (n - 2)) (wantedKey ScopeKeys s (f .to) 1) (g .1) in
+      let y = text-read Path 1 256 s b q (f .was) in
+      let t = tail-read (i .next) (PrefixAt (f .from) (f .to)) (n - 2) (i .goes) in
+      let v = t .1 in
+      let w : n ≡ 1 + 1 + present (v .max-bytes) = rw (v .left-so) (omega (arith, ltb-false n 2 (g .0))) in
+      let x =
+      on (head 5 n) (there-head s b at (h .headed)) (
+      on (text (ascii "prefix")) (key-there p 0 q (omega arith) d) (
+      on (text (y .tree)) (y .there) (on (text (ascii "methods")) (wanted-read ScopeKeys 1 (omega arith) s b (f .to) (i .was)) (v .there))
+      )
+      ) in
+      record {
+        tree = record { prefix = some (y .tree); methods = v .methods; max-bytes = v .max-bytes };
+        good = record { good-prefix = y .good; good-methods = v .good-methods; good-max-bytes = v .good-max-bytes };
+        there = rw (← w) (simp append-assoc (simp append-assoc at x));
+        holds = record { prefix-held = subst (PrefixHeld s (some (y .tree))) (t .0) (y .held); counted-so = v .counted-so; methods-held = v .held; limit-held = v .limit-held };
+      }
+
+  scope-first : (at n p i q : ℕ) → readCount s at 5 1 3 6 ≡ Counted n p → keyAt ScopeKeys s p ≡ Known i q → (u v : Bool) → eqb i 0 ≡ u → eqb i 1 ≡ v
+      → Ended (pick u (prefixThen s at n q) (pick v (methodsThen s NoPrefix (n - 1) q) (Bad 4 p))) → IsScope s at part k from to limit next
+  scope-first at n p i q c d true v x y e = first-prefix at n p q c (d ∙ ap (λ (j : ℕ). Known j q) (eqb-true i 0 x)) e
+  scope-first at n p i q c d false true x y e = first-methods at n p q c (d ∙ ap (λ (j : ℕ). Known j q) (eqb-true i 1 y)) e
+  scope-first at n p i q c d false false x y e = let z = never 4 p e in elim z [ ]
+
+pub scope-read : (s : List ℕ) → IsBytes s → (at : ℕ) {part : Prefix} {k from to : ℕ} {limit : Limit} {next : ℕ} → scopeOf s at ≡ Of part k from to limit next
+    → IsScope s at part k from to limit next
+unfolding scopeOf entriesThen firstThen
+scope-read s b at {part} {k} {from} {to} {limit} {next} e =
+    let never = never s b part k from to limit next in
+    let c = count-went never (entriesThen s at) (readCount s at 5 1 3 6) e in
+    let d = key-went never (firstThen s at (c .n) (c .next)) (keyAt ScopeKeys s (c .next)) (c .goes) in
+    scope-first s b part k from to limit next at (c .n) (c .next) (d .index) (d .next) (c .was) (d .was) (eqb (d .index) 0) (eqb (d .index) 1) refl refl (d .goes)

@@ -1,0 +1,3 @@
+pub mod Scopes
+pub mod Methods
+pub mod Reading
