@@ -1,10 +1,10 @@
 -- A part that lies at a place of a longer string: what stands behind it, and where it ends.
 use mathlib.Core.Path.{_≡_, refl, sym, ap, _∙_}
 use mathlib.Core.List.{List, _++_}
-use Prim.Native.Nat.{ℕ, _+_}
+use Prim.Native.Nat.{ℕ, _+_, _-_}
 use native.Mathlib.Omega.{arith}
-use lib.ListN.{length, drop, length-append}
-use lib.Seq.{drop-drop, drop-at}
+use lib.ListN.{length, take, drop, length-append}
+use lib.Seq.{drop-drop, drop-at, take-at, drop-append-seam}
 
 pub past : (s x t : List ℕ) (at : ℕ) → drop at s ≡ x ++ t → drop (at + length x) s ≡ t
 past s x t at e = sym (drop-drop (length x) at s) ∙ ap (drop (length x)) e ∙ drop-at x t (length x) refl
@@ -15,3 +15,13 @@ ends x y at = rw (length-append x y) (omega arith)
 -- x, and then what stands behind it
 pub on : (x : List ℕ) {a b c : List ℕ} → a ≡ x ++ b → b ≡ c → a ≡ x ++ c
 on x e f = e ∙ ap (λ (t : List ℕ). x ++ t) f
+
+-- the part itself
+pub lies : (s x t : List ℕ) (at : ℕ) → drop at s ≡ x ++ t → take (at + length x - at) (drop at s) ≡ x
+lies s x t at e =
+    let n : at + length x - at ≡ length x = omega arith in
+    rw (n, e) (take-at x t (length x) refl)
+
+-- behind one front stands one rest
+pub one-rest : (x y t u : List ℕ) → x ≡ y → x ++ t ≡ y ++ u → t ≡ u
+one-rest x y t u q e = sym (drop-append-seam x t) ∙ ap (drop (length x)) e ∙ ap (λ (z : List ℕ). drop (length z) (y ++ u)) q ∙ drop-append-seam y u

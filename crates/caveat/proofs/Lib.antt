@@ -1,0 +1,6 @@
+pub mod Holds
+pub mod ValuesWritten
+pub mod ValuesRead
+pub mod CaveatLaws
+pub mod OneCaveat
+pub mod OneAnswer

@@ -12,7 +12,7 @@ use values::Item;
 ghost use mathlib.Core.Path.{_≡_};
 ghost use Rattle.cbor.specs.declared.Class.{Class};
 ghost use Rattle.caveat.specs.Reading.{numbered, worded, numberValue, textValue, digestValue};
-ghost use Rattle.caveat.specs.Reading.{methodValue, cidrValue, rateValue, amnesiaValue, customThen, customValue};
+ghost use Rattle.caveat.specs.Reading.{methodValue, cidrValue, rateValue, amnesiaValue, customValue};
 ghost use Rattle.caveat.specs.Reading.{valueAt, caveatOf};
 
 // A caveat by value: its numbers, and where its strings and lists lie in the part.
@@ -211,33 +211,26 @@ fn custom_value(s: &[u8], at: usize) -> CaveatParts
                 to: ns_end,
             } => match keys::wanted_key(s, ns_end, Names::Custom, 1) {
                 Item::Bad { kind, at: a } => CaveatParts::Bad { kind, at: a },
-                Item::End { next: value } => custom_then(s, ns, ns_end, value),
-            },
-        },
-    }
-}
-
-// Where the value is at `value`, behind its ns.
-fn custom_then(s: &[u8], ns: usize, to: usize, value: usize) -> CaveatParts
-    ensures { λ r. ⌜ r ≡ customThen (now (s .entry)) ns to value ⌝ }
-{
-    match values::read_value(s, value, 4) {
-        Item::Bad { kind, at: a } => CaveatParts::Bad { kind, at: a },
-        Item::End { next: value_end } => match keys::name_field(s, value_end, Names::Custom, 2) {
-            Span::Bad { kind, at: a } => CaveatParts::Bad { kind, at: a },
-            Span::Of {
-                from: name,
-                to: name_end,
-            } => CaveatParts::Of {
-                caveat: Caveat::Custom {
-                    ns,
-                    ns_end: to,
-                    value,
-                    value_end,
-                    name,
-                    name_end,
+                Item::End { next: value } => match values::read_value(s, value, 4) {
+                    Item::Bad { kind, at: a } => CaveatParts::Bad { kind, at: a },
+                    Item::End { next: end } => match keys::name_field(s, end, Names::Custom, 2) {
+                        Span::Bad { kind, at: a } => CaveatParts::Bad { kind, at: a },
+                        Span::Of {
+                            from: name,
+                            to: name_end,
+                        } => CaveatParts::Of {
+                            caveat: Caveat::Custom {
+                                ns,
+                                ns_end,
+                                value,
+                                value_end: end,
+                                name,
+                                name_end,
+                            },
+                            next: name_end,
+                        },
+                    },
                 },
-                next: name_end,
             },
         },
     }

@@ -1,5 +1,5 @@
 -- Keys both ways: a known name that was written is found by its index, and what is found is that name, written.
-use mathlib.Core.Path.{_≡_, refl, sym, ap, _∙_}
+use mathlib.Core.Path.{_≡_, refl, sym, ap, ap₂, _∙_}
 use mathlib.Core.Bool.{Bool, true, false}
 use mathlib.Core.List.{List, [], _∷_, _++_}
 use Prim.Native.Nat.{ℕ, zero, suc, _+_, _-_, _^_, _≤_, _<_}
@@ -83,6 +83,25 @@ key-read names s b at {i} {next} = by (readRun s at 3 0 0xffffffffffffffff) refl
     by (NoSpan kind a) p e = let z : _≡_ {A = ℕ} 0 1 = cc in let z : ⊥ = omega arith in elim z [ ]
     by (Found f t) p e = found f t (indexOfKey names (take (t - f) (drop f s))) p refl (eqb (indexOfKey names (take (t - f) (drop f s))) 16) refl e
 
+-- a name that was found stands there by its index
+pub named-read : (names : Names) (i : ℕ) → i < 16 → (s : List ℕ) → IsBytes s → (at : ℕ) {next : ℕ} → keyAt names s at ≡ Of i next
+    → drop at s ≡ string 3 (ascii (getD (keysOf names) i "")) ++ drop next s
+named-read names i h s b at e =
+    let k = key-read names s b at e in
+    let q : i - 0 ≡ i = omega arith in
+    let m : k .content ≡ ascii (getD (keysOf names) i "") = rw q at (index-name (keysOf names) 0 (k .content) (k .indexed) h) in
+    rw (← m) (k .there)
+
+-- the index is that of one of the names
+pub index-below : (ns : List String) (j : ℕ) (c : List ℕ) {i : ℕ} → indexFrom j c ns ≡ i → (i ≡ 16 → ⊥) → i < j + length ns
+unfolding indexFrom
+index-below [] j c e h = let z = h (sym e) in elim z [ ]
+index-below (n ∷ ns) j c {i} e h = by (sameOf c (ascii n)) e (λ r. index-below ns (suc j) c r h)
+  where
+    by : (b : Bool) → pick b j (indexFrom (suc j) c ns) ≡ i → (indexFrom (suc j) c ns ≡ i → i < suc j + length ns) → i < j + suc (length ns)
+    by true e m = omega (arith, e)
+    by false e m = omega (arith, m e)
+
 -- the key wanted, which is the name with that index
 pub wanted-written : (names : Names) (c : List ℕ) → length c < 2 ^ 64 → (want : ℕ) → indexOfKey names c ≡ want → want < 16 → (s rest : List ℕ) (at : ℕ)
     → drop at s ≡ string 3 c ++ rest → wantedKey names s at want ≡ End (at + length (string 3 c))
@@ -99,7 +118,4 @@ wanted-read names want h s b at {next} = by (keyAt names s at) refl
     by (Of i n) p e =
         let t = must-take (End n) (NoItem 4 at) (λ e. let z : _≡_ {A = ℕ} 0 1 = cc in omega arith) (eqb i want) e in
         let y : n ≡ next = let u = t .1 in cc in
-        let k = key-read names s b at p in
-        let q : want - 0 ≡ want = omega arith in
-        let m : k .content ≡ ascii (getD (keysOf names) want "") = rw q at (index-name (keysOf names) 0 (k .content) (k .indexed ∙ eqb-true i want (t .0)) h) in
-        rw (← m, ← y) (k .there)
+        named-read names want h s b at (p ∙ ap₂ Of (eqb-true i want (t .0)) y)

@@ -1,16 +1,17 @@
 -- Texts within limits both ways: one that was written reads back, and what reads well was written so.
 use mathlib.Core.Path.{_≡_, refl, sym, ap, _∙_}
-use mathlib.Core.List.{List, _++_}
+use mathlib.Core.List.{List, _++_, append-assoc}
 use Prim.Native.Nat.{ℕ, _+_, _-_, _^_, _≤_, _<_}
 use native.Mathlib.Omega.{arith}
 use lib.ListN.{length, take, drop, length-drop}
-use lib.Seq.{length-take-le}
+use lib.Seq.{length-take-le, take-append-seam, drop-append-seam}
 use Rattle.basis.specs.Basis.{IsBytes}
 use Rattle.basis.proofs.Parts.{ends}
 use Rattle.cbor.specs.Heads.{head}
 use Rattle.cbor.specs.Strings.{readString}
 use Rattle.cbor.specs.declared.Class.{Class}
 use Rattle.cbor.specs.declared.Span.the-variants.{Of}
+use Rattle.cbor.proofs.HeadLaws.{head-unique}
 use Rattle.cbor.proofs.RunReads.{found, held}
 use Rattle.cbor.proofs.StringLaws.{read-string-written, content-there, written-run}
 use Rattle.keys.specs.Maps.{text, GoodText}
@@ -47,3 +48,12 @@ text-read class low high s b at {from} {to} e =
       held = refl;
       there = written-run s at 3 low high b (h .run-found);
     }
+
+-- one text for one encoding, whatever stands behind
+pub text-one : (m n : List ℕ) → length m < 2 ^ 64 → length n < 2 ^ 64 → (t u : List ℕ) → text m ++ t ≡ text n ++ u → (m ≡ n) × (t ≡ u)
+text-one m n lm ln t u e =
+    let h = head-unique 3 (length m) 3 (length n) (m ++ t) (n ++ u) lm ln (sym (append-assoc (head 3 (length m)) m t) ∙ e ∙ append-assoc (head 3 (length n)) n u) in
+    let q : length m ≡ length n = h .1 in
+    let p : m ++ t ≡ n ++ u = h .2 in
+    (sym (take-append-seam m t) ∙ ap (take (length m)) p ∙ ap (λ (k : ℕ). take k (n ++ u)) q ∙ take-append-seam n u,
+     sym (drop-append-seam m t) ∙ ap (drop (length m)) p ∙ ap (λ (k : ℕ). drop k (n ++ u)) q ∙ drop-append-seam n u)

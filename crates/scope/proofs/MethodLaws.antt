@@ -1,5 +1,5 @@
 -- Method lists both ways: a list within limits that was written reads back, and what reads well is such a list, written.
-use mathlib.Core.Path.{_≡_, refl, sym, ap, subst, _∙_}
+use mathlib.Core.Path.{_≡_, refl, sym, ap, ap₂, subst, _∙_}
 use mathlib.Core.List.{List, [], _∷_, _++_, append-assoc}
 use Prim.Native.Nat.{ℕ, zero, suc, _+_, _-_, _^_, _≤_, _<_}
 use native.Mathlib.Nat.{add-zero}
@@ -23,8 +23,8 @@ use Rattle.scope.specs.declared.Methods.{Methods}
 use Rattle.scope.specs.declared.Methods.the-variants.{Of, Bad}
 use Rattle.keys.specs.Maps.{text, texts, GoodText}
 use Rattle.scope.specs.Scopes.{encodeMethods, AllMethods, GoodMethods}
-use Rattle.keys.proofs.TextLaws.{text-written, IsText, text-read}
-use Rattle.scope.specs.Methods.{endOf, methodAt, methodsTo, methodsBy, methodsOf}
+use Rattle.keys.proofs.TextLaws.{text-written, IsText, text-read, text-one}
+use Rattle.scope.specs.Methods.{endOf, methodAt, methodsTo, methodsBy, methodsOf, afterMethods}
 
 method-there : (s m rest : List ℕ) (at : ℕ) → GoodText Upper 1 16 m → drop at s ≡ text m ++ rest → methodAt s at ≡ End (at + length (text m))
 unfolding endOf
@@ -49,6 +49,14 @@ methods-written ms g s rest at e =
     let f = e ∙ append-assoc h (texts ms) rest in
     let r = sym (count s at 4 0 16 5 (head-there s (texts ms ++ rest) at 4 (length ms) f (omega arith)) refl (omega arith) l) in
     rw (r, methods-there ms (g .each) s rest (at + length h) (past s h (texts ms ++ rest) at f)) (ap (Of (length ms) (at + length h)) (ends h (texts ms) at))
+
+-- the methods lie behind their array's head
+pub methods-lie : (ms : List (List ℕ)) (s rest : List ℕ) (at : ℕ) → drop at s ≡ encodeMethods ms ++ rest
+    → drop (at + length (head 4 (length ms))) s ≡ texts ms ++ drop (at + length (encodeMethods ms)) s
+unfolding encodeMethods
+methods-lie ms s rest at e =
+    let h = head 4 (length ms) in
+    past s h (texts ms ++ drop (at + length (encodeMethods ms)) s) at (e ∙ rw (past s (encodeMethods ms) rest at e, append-assoc))
 
 method-read : (s : List ℕ) → IsBytes s → (at to : ℕ) → methodAt s at ≡ End to → (from : ℕ) × IsText Upper 1 16 s at from to
 unfolding endOf
@@ -114,3 +122,29 @@ methods-read s b at {k} {from} {to} = by (readCount s at 4 0 16 5) refl
     by : (c : Count) → readCount s at 4 0 16 5 ≡ c → methodsBy s c ≡ Of k from to → IsMethods s at k from to
     by (NoCount kind a) p e = let z : _≡_ {A = ℕ} 0 1 = cc in let z : ⊥ = omega arith in elim z [ ]
     by (Counted n f) p e = within n f p (itemsOf (methodAt s) n f) refl e
+
+pub record MethodsWent {A : Type 0} (rest : ℕ → ℕ → ℕ → A) (m : Methods) (x : A) : Type 0 where
+  pub number : ℕ
+  pub first : ℕ
+  pub behind : ℕ
+  pub was : m ≡ Of number first behind
+  pub goes : rest number first behind ≡ x
+
+-- a step of a reading that ended well; see StepLaws
+pub methods-went : {A : Type 0} {x : A} {bad : ℕ → ℕ → A} → ((kind at : ℕ) → bad kind at ≡ x → ⊥) → (rest : ℕ → ℕ → ℕ → A) (m : Methods)
+    → afterMethods bad rest m ≡ x → MethodsWent rest m x
+methods-went never rest (Bad kind at) e = let z = never kind at e in elim z [ ]
+methods-went never rest (Of c f t) e = record { number = c; first = f; behind = t; was = refl; goes = e }
+
+-- one list for one encoding: as many methods within limits, written at the front of one string, are the same
+pub methods-one : (xs ys : List (List ℕ)) → AllMethods xs → AllMethods ys → length xs ≡ length ys → (t u : List ℕ) → texts xs ++ t ≡ texts ys ++ u → xs ≡ ys
+unfolding AllMethods texts
+methods-one [] [] g h l t u e = refl
+methods-one [] (y ∷ ys) g h l t u e = let z : ⊥ = omega arith in elim z [ ]
+methods-one (x ∷ xs) [] g h l t u e = let z : ⊥ = omega arith in elim z [ ]
+methods-one (x ∷ xs) (y ∷ ys) g h l t u e =
+    let lx = g .0 .most in
+    let ly = h .0 .most in
+    let f = sym (append-assoc (text x) (texts xs) t) ∙ e ∙ append-assoc (text y) (texts ys) u in
+    let o = text-one x y (omega arith) (omega arith) (texts xs ++ t) (texts ys ++ u) f in
+    ap₂ _∷_ (o .0) (methods-one xs ys (g .1) (h .1) (omega arith) t u (o .1))

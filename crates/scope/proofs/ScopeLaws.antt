@@ -1,5 +1,5 @@
 -- Scopes both ways: one within limits that was written reads back, and what reads well is exactly one such scope, written.
-use mathlib.Core.Path.{_≡_, refl, sym, ap, subst, _∙_}
+use mathlib.Core.Path.{_≡_, refl, sym, ap, ap₂, subst, _∙_}
 use mathlib.Core.Bool.{Bool, true, false}
 use mathlib.Core.List.{List, [], _∷_, _++_, append-assoc}
 use mathlib.Core.Option.{Option, some, none}
@@ -11,7 +11,7 @@ use lib.Dec.{eqb, ltb}
 use lib.ListN.{length, take, drop, getD, length-append}
 use Rattle.basis.specs.Basis.{pick, ascii, IsBytes}
 use Rattle.basis.specs.Same.{sameOf}
-use Rattle.basis.proofs.Parts.{past, ends, on}
+use Rattle.basis.proofs.Parts.{past, ends, on, one-rest}
 use Rattle.cbor.specs.Heads.{head}
 use Rattle.cbor.specs.Strings.{readString}
 use Rattle.cbor.specs.Counts.{readCount}
@@ -24,7 +24,7 @@ use Rattle.keys.specs.Maps.{text, texts, entry, entryIf, present, IfPresent}
 use Rattle.keys.specs.Steps.{afterItem, afterKey, afterCount}
 use Rattle.keys.specs.declared.Key.the-variants.{Of as Known}
 use Rattle.keys.specs.declared.Names.the-variants.{Scope as ScopeKeys}
-use Rattle.keys.proofs.KeyLaws.{key-written, key-read, index-name, wanted-written, wanted-read}
+use Rattle.keys.proofs.KeyLaws.{key-written, named-read, wanted-written, wanted-read}
 use Rattle.keys.proofs.FieldLaws.{number-field-written, number-field-read}
 use Rattle.keys.proofs.TextLaws.{text-written, text-held, text-read}
 use Rattle.keys.proofs.StepLaws.{count-went, key-went, span-went, item-went, must-take, must-pass}
@@ -39,7 +39,7 @@ use Rattle.scope.specs.declared.Limit.{Limit}
 use Rattle.scope.specs.declared.Limit.the-variants.{Absent as NoLimit, Of as AtMost}
 use Rattle.scope.specs.declared.ScopeParts.{ScopeParts}
 use Rattle.scope.specs.declared.ScopeParts.the-variants.{Of, Bad}
-use Rattle.scope.proofs.MethodLaws.{methods-written, methods-read}
+use Rattle.scope.proofs.MethodLaws.{methods-written, methods-lie, methods-read, methods-went, methods-one}
 
 abbrev pub limitOf : Option ℕ → Limit
 limitOf none = NoLimit
@@ -110,13 +110,6 @@ module _ (ms : List (List ℕ)) (gm : GoodMethods ms) (mb : Option ℕ) (gb : If
   abbrev limit : List ℕ
   limit = entryIf "max_bytes" (head 0) mb
 
-  -- the methods lie behind their array's head
-  methods-lie : (p : ℕ) (r : List ℕ) → drop p s ≡ list ++ r → drop (p + length (head 4 (length ms))) s ≡ texts ms ++ drop (p + length list) s
-  unfolding encodeMethods
-  methods-lie p r e =
-      let h = head 4 (length ms) in
-      past s h (texts ms ++ drop (p + length list) s) p (e ∙ rw (past s list r p e, append-assoc))
-
   without : drop at s ≡ encodeScope (scope none ms mb) ++ rest → Written s at (scope none ms mb)
   unfolding encodeScope scopeOf entriesThen firstThen keysOf indexFrom sameOf
   without e =
@@ -137,7 +130,7 @@ module _ (ms : List (List ℕ)) (gm : GoodMethods ms) (mb : Option ℕ) (gb : If
         from = a2 + length (head 4 (length ms));
         to = a2 + length list;
         answer = rw (c, k, q) (t ∙ ap (Of NoPrefix (length ms) (a2 + length (head 4 (length ms))) (a2 + length list) (limitOf mb)) (simp length-append (omega arith)));
-        holds = record { prefix-held = tt; counted-so = refl; methods-held = methods-lie a2 (limit ++ rest) (d2 ∙ append-assoc list limit rest); limit-held = refl };
+        holds = record { prefix-held = tt; counted-so = refl; methods-held = methods-lie ms s (limit ++ rest) a2 (d2 ∙ append-assoc list limit rest); limit-held = refl };
       }
 
   within : (p : List ℕ) → GoodPath p → drop at s ≡ encodeScope (scope (some p) ms mb) ++ rest → Written s at (scope (some p) ms mb)
@@ -174,7 +167,7 @@ module _ (ms : List (List ℕ)) (gm : GoodMethods ms) (mb : Option ℕ) (gb : If
         holds = record {
           prefix-held = text-held p (omega arith) s (key ++ ((list ++ limit) ++ rest)) a2 d2;
           counted-so = refl;
-          methods-held = methods-lie a4 (limit ++ rest) (d4 ∙ append-assoc list limit rest);
+          methods-held = methods-lie ms s (limit ++ rest) a4 (d4 ∙ append-assoc list limit rest);
           limit-held = refl;
         };
       }
@@ -206,23 +199,12 @@ record IsTail (s : List ℕ) (at left : ℕ) (k from to : ℕ) (limit : Limit) (
   pub limit-held : limitOf max-bytes ≡ limit
   pub there : drop at s ≡ encodeMethods methods ++ (entryIf "max_bytes" (head 0) max-bytes ++ drop next s)
 
-record MethodsWent (s : List ℕ) (at : ℕ) {A : Type 0} (rest : ℕ → ℕ → ℕ → A) (x : A) : Type 0 where
-  pub count : ℕ
-  pub first : ℕ
-  pub behind : ℕ
-  pub was : methodsOf s at ≡ MethodsAt count first behind
-  pub goes : rest count first behind ≡ x
-
 module _ (s : List ℕ) (b : IsBytes s) (part : Prefix) (k from to : ℕ) (limit : Limit) (next : ℕ) where
   abbrev Ended : ScopeParts → Type 0
   Ended r = r ≡ Of part k from to limit next
 
   never : (kind at : ℕ) → Bad kind at ≡ Of part k from to limit next → ⊥
   never kind at e = let z : _≡_ {A = ℕ} 0 1 = cc in omega arith
-
-  methods-went : (at : ℕ) (rest : ℕ → ℕ → ℕ → ScopeParts) (m : Methods) → methodsOf s at ≡ m → Ended (afterMethods Bad rest m) → MethodsWent s at rest (Of part k from to limit next)
-  methods-went at rest (NoMethods kind a) p e = let z = never kind a e in elim z [ ]
-  methods-went at rest (MethodsAt c f t) p e = record { count = c; first = f; behind = t; was = p; goes = e }
 
   another : (at : ℕ) → Ended (afterKey Bad (anotherThen at) (keyAt ScopeKeys s at)) → ⊥
   unfolding anotherThen
@@ -291,16 +273,8 @@ module _ (s : List ℕ) (b : IsBytes s) (part : Prefix) (k from to : ℕ) (limit
   tail-read : (at : ℕ) (p : Prefix) (left : ℕ) → Ended (methodsThen s p left at) → (p ≡ part) × IsTail s at left k from to limit next
   unfolding methodsThen limitThen
   tail-read at p left e =
-      let w = methods-went at (methodsNext s p left) (methodsOf s at) refl e in
-      behind-methods at (w .count) (w .first) (w .behind) (w .was) p left (eqb left 0) refl (w .goes)
-
-  -- a key by its index
-  key-there : (p i q : ℕ) → i < 16 → keyAt ScopeKeys s p ≡ Known i q → drop p s ≡ text (ascii (getD (keysOf ScopeKeys) i "")) ++ drop q s
-  key-there p i q h d =
-      let y = key-read ScopeKeys s b p d in
-      let z : i - 0 ≡ i = omega arith in
-      let n : y .content ≡ ascii (getD (keysOf ScopeKeys) i "") = rw z at (index-name (keysOf ScopeKeys) 0 (y .content) (y .indexed) h) in
-      rw (← n) (y .there)
+      let w = methods-went never (methodsNext s p left) (methodsOf s at) e in
+      behind-methods at (w .number) (w .first) (w .behind) (w .was) p left (eqb left 0) refl (w .goes)
 
   first-methods : (at n p q : ℕ) → readCount s at 5 1 3 6 ≡ Counted n p → keyAt ScopeKeys s p ≡ Known 1 q → Ended (methodsThen s NoPrefix (n - 1) q)
       → IsScope s at part k from to limit next
@@ -310,7 +284,7 @@ module _ (s : List ℕ) (b : IsBytes s) (part : Prefix) (k from to : ℕ) (limit
       let t = tail-read q NoPrefix (n - 1) e in
       let v = t .1 in
       let w : n ≡ 0 + 1 + present (v .max-bytes) = rw (v .left-so) (omega (arith, h .enough)) in
-      let x = on (head 5 n) (there-head s b at (h .headed)) (on (text (ascii "methods")) (key-there p 1 q (omega arith) d) (v .there)) in
+      let x = on (head 5 n) (there-head s b at (h .headed)) (on (text (ascii "methods")) (named-read ScopeKeys 1 (omega arith) s b p d) (v .there)) in
       record {
         tree = record { prefix = none; methods = v .methods; max-bytes = v .max-bytes };
         good = record { good-prefix = tt; good-methods = v .good-methods; good-max-bytes = v .good-max-bytes };
@@ -332,7 +306,7 @@ module _ (s : List ℕ) (b : IsBytes s) (part : Prefix) (k from to : ℕ) (limit
       let w : n ≡ 1 + 1 + present (v .max-bytes) = rw (v .left-so) (omega (arith, ltb-false n 2 (g .0))) in
       let x =
       on (head 5 n) (there-head s b at (h .headed)) (
-      on (text (ascii "prefix")) (key-there p 0 q (omega arith) d) (
+      on (text (ascii "prefix")) (named-read ScopeKeys 0 (omega arith) s b p d) (
       on (text (y .tree)) (y .there) (on (text (ascii "methods")) (wanted-read ScopeKeys 1 (omega arith) s b (f .to) (i .was)) (v .there))
       )
       ) in
@@ -357,3 +331,43 @@ scope-read s b at {part} {k} {from} {to} {limit} {next} e =
     let c = count-went never (entriesThen s at) (readCount s at 5 1 3 6) e in
     let d = key-went never (firstThen s at (c .n) (c .next)) (keyAt ScopeKeys s (c .next)) (c .goes) in
     scope-first s b part k from to limit next at (c .n) (c .next) (d .index) (d .next) (c .was) (d .was) (eqb (d .index) 0) (eqb (d .index) 1) refl refl (d .goes)
+
+-- the parts settle the scope
+prefix-one : (s : List ℕ) (o p : Option (List ℕ)) (part : Prefix) → PrefixHeld s o part → PrefixHeld s p part → o ≡ p
+prefix-one s none none NoPrefix g h = refl
+prefix-one s none none (PrefixAt from to) g h = elim g [ ]
+prefix-one s none (some y) NoPrefix g h = elim h [ ]
+prefix-one s none (some y) (PrefixAt from to) g h = elim g [ ]
+prefix-one s (some x) none NoPrefix g h = elim g [ ]
+prefix-one s (some x) none (PrefixAt from to) g h = elim h [ ]
+prefix-one s (some x) (some y) NoPrefix g h = elim g [ ]
+prefix-one s (some x) (some y) (PrefixAt from to) g h = ap some (sym g ∙ h)
+
+limit-one : (o p : Option ℕ) → limitOf o ≡ limitOf p → o ≡ p
+limit-one none none e = refl
+limit-one none (some n) e = let z : _≡_ {A = ℕ} 0 1 = cc in let z : ⊥ = omega arith in elim z [ ]
+limit-one (some n) none e = let z : _≡_ {A = ℕ} 0 1 = cc in let z : ⊥ = omega arith in elim z [ ]
+limit-one (some n) (some m) e = let x : n ≡ m = cc in ap some x
+
+module _ (s : List ℕ) (x y : Scope) (gx : GoodScope x) (gy : GoodScope y) {p o : Prefix} {k l f g t u n m : ℕ} {a b : Limit} where
+  pub holds-one : Holds s x p k f t a → Holds s y o l g u b → _≡_ {A = ScopeParts} (Of p k f t a n) (Of o l g u b m) → x ≡ y
+  holds-one hx hy e =
+      let pe : p ≡ o = cc in
+      let ke : k ≡ l = cc in
+      let fe : f ≡ g = cc in
+      let ae : a ≡ b = cc in
+      let q = prefix-one s (x .prefix) (y .prefix) o (subst (PrefixHeld s (x .prefix)) pe (hx .prefix-held)) (hy .prefix-held) in
+      let r =
+          methods-one (x .methods) (y .methods) (gx .good-methods .each) (gy .good-methods .each) (hx .counted-so ∙ ke ∙ sym (hy .counted-so)) (drop t s) (drop u s)
+          (sym (hx .methods-held) ∙ ap (λ (i : ℕ). drop i s) fe ∙ hy .methods-held) in
+      let v = limit-one (x .max-bytes) (y .max-bytes) (hx .limit-held ∙ ae ∙ sym (hy .limit-held)) in
+      ap₂ (λ (o : Option (List ℕ)) (r : List (List ℕ) × Option ℕ). scope o (r .0) (r .1)) q (ap₂ (λ (a : List (List ℕ)) (b : Option ℕ). (a, b)) r v)
+
+-- one scope for one encoding, whatever stands behind
+pub scope-one : (x y : Scope) → GoodScope x → GoodScope y → (t u : List ℕ) → encodeScope x ++ t ≡ encodeScope y ++ u → (x ≡ y) × (t ≡ u)
+scope-one x y gx gy t u e =
+    let s = encodeScope x ++ t in
+    let a = scope-written x gx s t 0 refl in
+    let b = scope-written y gy s u 0 e in
+    let q = holds-one s x y gx gy (a .holds) (b .holds) (sym (a .answer) ∙ b .answer) in
+    (q, one-rest (encodeScope x) (encodeScope y) t u (ap encodeScope q) e)
