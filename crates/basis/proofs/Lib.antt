@@ -5,3 +5,4 @@ pub mod All
 pub mod Powers
 pub mod Sameness
 pub mod Parts
+pub mod Picks

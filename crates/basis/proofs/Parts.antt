@@ -3,6 +3,7 @@ use mathlib.Core.Path.{_≡_, refl, sym, ap, _∙_}
 use mathlib.Core.List.{List, _++_}
 use Prim.Native.Nat.{ℕ, _+_, _-_}
 use native.Mathlib.Omega.{arith}
+use Rattle.basis.specs.Basis.{between}
 use lib.ListN.{length, take, drop, length-append}
 use lib.Seq.{drop-drop, drop-at, take-at, drop-append-seam}
 
@@ -17,7 +18,7 @@ pub on : (x : List ℕ) {a b c : List ℕ} → a ≡ x ++ b → b ≡ c → a �
 on x e f = e ∙ ap (λ (t : List ℕ). x ++ t) f
 
 -- the part itself
-pub lies : (s x t : List ℕ) (at : ℕ) → drop at s ≡ x ++ t → take (at + length x - at) (drop at s) ≡ x
+pub lies : (s x t : List ℕ) (at : ℕ) → drop at s ≡ x ++ t → between s at (at + length x) ≡ x
 lies s x t at e =
     let n : at + length x - at ≡ length x = omega arith in
     rw (n, e) (take-at x t (length x) refl)

@@ -3,10 +3,10 @@
 use mathlib.Core.Path.{_≡_}
 use mathlib.Core.Bool.{Bool, true, false}
 use mathlib.Core.List.{List, [], _∷_, _++_}
-use Prim.Native.Nat.{ℕ, zero, suc, _<_}
+use Prim.Native.Nat.{ℕ, zero, suc, _-_, _<_}
 use Prim.Native.Char.{code}
 use Prim.Native.String.{String, [] as none, _∷_ as _then_}
-use lib.ListN.{length, drop, getD}
+use lib.ListN.{length, take, drop, getD}
 use lib.Dec.{leb}
 
 abbrev pub pick : {A : Type 0} → Bool → A → A → A
@@ -21,6 +21,10 @@ ascii (c then s) = code c ∷ ascii s
 -- every element is a byte
 abbrev pub IsBytes : List ℕ → Type 0
 IsBytes s = (i : ℕ) → getD s i 0 < 256
+
+-- the bytes from a place to another
+abbrev pub between : List ℕ → ℕ → ℕ → List ℕ
+between s from to = take (to - from) (drop from s)
 
 -- f 0, f 1, .., f (n - 1)
 unfoldable pub tab : ℕ → (ℕ → ℕ) → List ℕ

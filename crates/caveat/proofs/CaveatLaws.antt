@@ -127,11 +127,11 @@ caveat-read s b {part} {next} e =
     let y = x .tree in
     let d0 : drop 0 s ≡ head 5 2 ++ drop (m .next) s = there-head s b 0 (c .headed) ∙ ap (λ (k : ℕ). head 5 k ++ drop (m .next) s) n in
     let d2 : drop (k .next) s ≡ text (ascii (tOf y)) ++ drop (t .next) s =
-        named-read T (t .index) (omega arith) s b (k .next) (t .was)
-        ∙ ap (λ (w : String). text (ascii w) ++ drop (t .next) s) (ap (λ (i : ℕ). getD (keysOf T) i "") (sym (x .named)) ∙ named y .named) in
+    named-read T (t .index) (omega arith) s b (k .next) (t .was)
+    ∙ ap (λ (w : String). text (ascii w) ++ drop (t .next) s) (ap (λ (i : ℕ). getD (keysOf T) i "") (sym (x .named)) ∙ named y .named) in
     let there =
-        joined s y part next (m .next) (k .next) (t .next) (v .next) d0 (wanted-read CaveatKeys 0 (omega arith) s b (m .next) (k .was)) d2
-        (wanted-read CaveatKeys 1 (omega arith) s b (t .next) (v .was)) (x .there) in
+    joined s y part next (m .next) (k .next) (t .next) (v .next) d0 (wanted-read CaveatKeys 0 (omega arith) s b (m .next) (k .was)) d2
+    (wanted-read CaveatKeys 1 (omega arith) s b (t .next) (v .was)) (x .there) in
     record {
       tree = y;
       good = x .good;

@@ -2,18 +2,15 @@
 use mathlib.Core.Path.{_≡_}
 use mathlib.Core.Bool.{Bool}
 use mathlib.Core.List.{List, _++_}
-use Prim.Native.Nat.{ℕ, _-_}
-use lib.ListN.{length, take, drop}
+use Prim.Native.Nat.{ℕ}
+use lib.ListN.{length, drop}
+use Rattle.basis.specs.Basis.{between}
 use Rattle.keys.specs.Maps.{texts}
 use Rattle.values.specs.Trees.{Value, encode}
 use Rattle.cidr.specs.Prefixes.{Prefix}
 use Rattle.caveat.specs.Caveats.{Caveat, exp, nbf, aud, method, path-prefix, ip-cidr, bytes-le, rate, tenant, amnesia, gov-policy-digest, custom}
 use Rattle.caveat.specs.declared.Caveat.{Caveat as Part}
 use Rattle.caveat.specs.declared.Caveat.the-variants.{Exp, Nbf, Aud, Method, PathPrefix, IpCidr, BytesLe, Rate, Tenant, Amnesia, GovPolicyDigest, Custom}
-
--- the bytes from a place to another
-abbrev pub between : List ℕ → ℕ → ℕ → List ℕ
-between s from to = take (to - from) (drop from s)
 
 pub data Holds (s : List ℕ) : Caveat → Part → Type 0 where
   exp-is : (n : ℕ) → Holds s (exp n) (Exp n)

@@ -4,3 +4,4 @@ pub mod ValuesRead
 pub mod CaveatLaws
 pub mod OneCaveat
 pub mod OneAnswer
+pub mod Inside

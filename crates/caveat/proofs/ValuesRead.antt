@@ -7,7 +7,7 @@ use native.Mathlib.Omega.{arith}
 use borrow.Author.Tests.{eqb-true, eqb-false}
 use lib.Dec.{eqb}
 use lib.ListN.{length, take, drop, getD}
-use Rattle.basis.specs.Basis.{ascii, IsBytes}
+use Rattle.basis.specs.Basis.{ascii, between, IsBytes}
 use Rattle.basis.proofs.Parts.{on, lies}
 use Rattle.cbor.specs.Heads.{head}
 use Rattle.cbor.specs.Counts.{readCount}
@@ -45,7 +45,7 @@ use Rattle.caveat.specs.declared.Caveat.{Caveat as Part}
 use Rattle.caveat.specs.declared.Caveat.the-variants.{Exp, Nbf, Aud, Method, PathPrefix, IpCidr, BytesLe, Rate, Tenant, Amnesia, GovPolicyDigest, Custom}
 use Rattle.caveat.specs.declared.CaveatParts.{CaveatParts}
 use Rattle.caveat.specs.declared.CaveatParts.the-variants.{Of, Bad}
-use Rattle.caveat.proofs.Holds.{between, Holds, exp-is, nbf-is, aud-is, method-is, path-is, cidr-is, bytes-is, rate-is, tenant-is, amnesia-is, digest-is, custom-is}
+use Rattle.caveat.proofs.Holds.{Holds, exp-is, nbf-is, aud-is, method-is, path-is, cidr-is, bytes-is, rate-is, tenant-is, amnesia-is, digest-is, custom-is}
 use Rattle.caveat.proofs.ValuesWritten.{indexOf}
 
 -- the value that was read lies from its first place to where it ends
@@ -193,8 +193,8 @@ module _ (s : List ℕ) (b : IsBytes s) (at : ℕ) (part : Part) (next : ℕ) wh
       let g = value-lies s (k .next) (v .next) (y .tree) (y .good) (v .was) (y .there) in
       let h : drop at s ≡ head 5 3 ++ drop (m .next) s = there-head s b at (c .headed) ∙ ap (λ (k : ℕ). head 5 k ++ drop (m .next) s) n in
       let d =
-          on (head 5 3) h
-          (on (entry "ns" (text (x .tree))) (x .there) (on (text (ascii "cbor")) (wanted-read CustomKeys 1 (omega arith) s b (u .to) (k .was)) (on (encode (y .tree)) (y .there) (z .there)))) in
+      on (head 5 3) h
+      (on (entry "ns" (text (x .tree))) (x .there) (on (text (ascii "cbor")) (wanted-read CustomKeys 1 (omega arith) s b (u .to) (k .was)) (on (encode (y .tree)) (y .there) (z .there)))) in
       found (custom (x .tree) (z .tree) (y .tree)) (x .good, z .good, y .good) (Custom (u .from) (u .to) (k .next) (v .next) (w .from) (w .to)) (w .to) (w .goes)
       (simp append-assoc (simp append-assoc at d))
       (custom-is (x .tree) (z .tree) (y .tree) (u .from) (u .to) (k .next) (v .next) (w .from) (w .to) (x .held) g (z .held))

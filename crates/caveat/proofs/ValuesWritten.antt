@@ -22,7 +22,7 @@ use Rattle.keys.specs.Keys.{keysOf, indexFrom, moreTs}
 use Rattle.keys.specs.Maps.{text, texts, entry, GoodText}
 use Rattle.keys.specs.declared.Names.the-variants.{Rate as RateKeys, Custom as CustomKeys}
 use Rattle.keys.proofs.KeyLaws.{wanted-written}
-use Rattle.keys.proofs.FieldLaws.{number-written, name-field-written, number-field-written}
+use Rattle.keys.proofs.FieldLaws.{number-written, name-lies, name-field-written, number-field-written}
 use Rattle.keys.proofs.TextLaws.{text-written, text-held}
 use Rattle.scope.specs.Scopes.{encodeMethods, GoodMethods}
 use Rattle.scope.proofs.MethodLaws.{methods-written, methods-lie}
@@ -32,7 +32,7 @@ use Rattle.caveat.specs.Reading.{customEnd, customThen, nsThen, customMa
 use Rattle.caveat.specs.declared.Caveat.{Caveat as Part}
 use Rattle.caveat.specs.declared.Caveat.the-variants.{Exp, Nbf, Aud, Method, PathPrefix, IpCidr, BytesLe, Rate, Tenant, Amnesia, GovPolicyDigest, Custom}
 use Rattle.caveat.specs.declared.CaveatParts.the-variants.{Of}
-use Rattle.caveat.proofs.Holds.{between, Holds, exp-is, nbf-is, aud-is, method-is, path-is, cidr-is, bytes-is, rate-is, tenant-is, amnesia-is, digest-is, custom-is}
+use Rattle.caveat.proofs.Holds.{Holds, exp-is, nbf-is, aud-is, method-is, path-is, cidr-is, bytes-is, rate-is, tenant-is, amnesia-is, digest-is, custom-is}
 
 -- the index of t
 unfoldable pub indexOf : Caveat → ℕ
@@ -100,13 +100,6 @@ partAt at (custom ns name value) =
 pub record Found (s : List ℕ) (at : ℕ) (c : Caveat) : Type 0 where
   pub answer : valueAt s (indexOf c) at ≡ Of (partAt at c) (at + length (vOf c))
   pub holds : Holds s c (partAt at c)
-
--- a text behind its key
-name-lies : (s key x rest : List ℕ) (at : ℕ) → length x < 2 ^ 64 → drop at s ≡ (key ++ text x) ++ rest
-    → between s (at + length key + length (head 3 (length x))) (at + length (key ++ text x)) ≡ x
-name-lies s key x rest at l e =
-    let f = e ∙ append-assoc key (text x) rest in
-    rw (← ends key (text x) at) (text-held x l s rest (at + length key) (past s key (text x ++ rest) at f))
 
 module _ (s rest : List ℕ) (at : ℕ) where
   abbrev Value-found : Caveat → Type 0

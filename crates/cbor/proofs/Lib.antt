@@ -7,3 +7,4 @@ pub mod StringLaws
 pub mod OneAnswer
 pub mod HeadLengths
 pub mod CountLaws
+pub mod Inside

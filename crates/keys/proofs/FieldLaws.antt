@@ -4,7 +4,7 @@ use mathlib.Core.List.{List, _++_, append-assoc}
 use Prim.Native.Nat.{ℕ, _+_, _-_, _^_, _≤_, _<_}
 use native.Mathlib.Omega.{arith}
 use lib.ListN.{length, take, drop, getD}
-use Rattle.basis.specs.Basis.{ascii, IsBytes}
+use Rattle.basis.specs.Basis.{ascii, between, IsBytes}
 use Rattle.basis.proofs.Parts.{past, ends}
 use Rattle.cbor.specs.Heads.{head}
 use Rattle.cbor.specs.Strings.{string}
@@ -18,10 +18,17 @@ use Rattle.keys.specs.Maps.{text, GoodText}
 use Rattle.keys.specs.declared.Names.{Names}
 use Rattle.keys.proofs.KeyLaws.{wanted-written, wanted-read}
 use Rattle.keys.proofs.StepLaws.{item-went}
-use Rattle.keys.proofs.TextLaws.{text-written, IsText, text-read}
+use Rattle.keys.proofs.TextLaws.{text-written, text-held, text-read}
 
 pub number-written : (s rest : List ℕ) (at n most : ℕ) → n ≤ most → n < 2 ^ 64 → drop at s ≡ head 0 n ++ rest → numberAt s most at ≡ Counted n (at + length (head 0 n))
 number-written s rest at n most l h e = sym (count s at 0 0 most 5 (head-there s rest at 0 n e h) refl (omega arith) l)
+
+-- a text behind its key
+pub name-lies : (s key x rest : List ℕ) (at : ℕ) → length x < 2 ^ 64 → drop at s ≡ (key ++ text x) ++ rest
+    → between s (at + length key + length (head 3 (length x))) (at + length (key ++ text x)) ≡ x
+name-lies s key x rest at l e =
+    let f = e ∙ append-assoc key (text x) rest in
+    rw (← ends key (text x) at) (text-held x l s rest (at + length key) (past s key (text x ++ rest) at f))
 
 module _ (names : Names) (want : ℕ) (h : want < 16) where
   -- where the key's content is the name with that index

@@ -3,3 +3,4 @@ pub mod TextLaws
 pub mod StepLaws
 pub mod FieldLaws
 pub mod OneAnswer
+pub mod Inside

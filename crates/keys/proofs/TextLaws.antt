@@ -54,6 +54,7 @@ pub text-one : (m n : List ℕ) → length m < 2 ^ 64 → length n < 2 ^ 64 → 
 text-one m n lm ln t u e =
     let h = head-unique 3 (length m) 3 (length n) (m ++ t) (n ++ u) lm ln (sym (append-assoc (head 3 (length m)) m t) ∙ e ∙ append-assoc (head 3 (length n)) n u) in
     let q : length m ≡ length n = h .1 in
-    let p : m ++ t ≡ n ++ u = h .2 in
-    (sym (take-append-seam m t) ∙ ap (take (length m)) p ∙ ap (λ (k : ℕ). take k (n ++ u)) q ∙ take-append-seam n u,
-     sym (drop-append-seam m t) ∙ ap (drop (length m)) p ∙ ap (λ (k : ℕ). drop k (n ++ u)) q ∙ drop-append-seam n u)
+    let p : m ++ t ≡ n ++ u = h .2 in (
+      sym (take-append-seam m t) ∙ ap (take (length m)) p ∙ ap (λ (k : ℕ). take k (n ++ u)) q ∙ take-append-seam n u,
+      sym (drop-append-seam m t) ∙ ap (drop (length m)) p ∙ ap (λ (k : ℕ). drop k (n ++ u)) q ∙ drop-append-seam n u,
+    )

@@ -2,3 +2,4 @@ pub mod Lengths
 pub mod MethodLaws
 pub mod ScopeLaws
 pub mod OneAnswer
+pub mod Inside

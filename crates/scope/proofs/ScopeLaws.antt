@@ -358,8 +358,8 @@ module _ (s : List ℕ) (x y : Scope) (gx : GoodScope x) (gy : GoodScope y) {p o
       let ae : a ≡ b = cc in
       let q = prefix-one s (x .prefix) (y .prefix) o (subst (PrefixHeld s (x .prefix)) pe (hx .prefix-held)) (hy .prefix-held) in
       let r =
-          methods-one (x .methods) (y .methods) (gx .good-methods .each) (gy .good-methods .each) (hx .counted-so ∙ ke ∙ sym (hy .counted-so)) (drop t s) (drop u s)
-          (sym (hx .methods-held) ∙ ap (λ (i : ℕ). drop i s) fe ∙ hy .methods-held) in
+      methods-one (x .methods) (y .methods) (gx .good-methods .each) (gy .good-methods .each) (hx .counted-so ∙ ke ∙ sym (hy .counted-so)) (drop t s) (drop u s)
+      (sym (hx .methods-held) ∙ ap (λ (i : ℕ). drop i s) fe ∙ hy .methods-held) in
       let v = limit-one (x .max-bytes) (y .max-bytes) (hx .limit-held ∙ ae ∙ sym (hy .limit-held)) in
       ap₂ (λ (o : Option (List ℕ)) (r : List (List ℕ) × Option ℕ). scope o (r .0) (r .1)) q (ap₂ (λ (a : List (List ℕ)) (b : Option ℕ). (a, b)) r v)
 

@@ -58,3 +58,8 @@ entriesThen s at n p = afterKey Bad (firstThen s at n p) (keyAt Scope s p)
 
 unfoldable pub scopeOf : List ℕ → ℕ → ScopeParts
 scopeOf s at = afterCount Bad (entriesThen s at) (readCount s at 5 1 3 6)
+
+-- a step of a reading that is a scope; see Steps
+abbrev pub afterScope : {A : Type 0} → (ℕ → ℕ → A) → (Prefix → ℕ → ℕ → ℕ → Limit → ℕ → A) → ScopeParts → A
+afterScope bad rest (Bad kind at) = bad kind at
+afterScope bad rest (Of prefix count from to limit next) = rest prefix count from to limit next

@@ -4,3 +4,4 @@ pub mod OneAnswer
 pub mod TreeReads
 pub mod TreesRead
 pub mod OneTree
+pub mod Inside

@@ -1,0 +1,4 @@
+pub mod Lent
+pub mod Holds
+pub mod CaveatLists
+pub mod TokenWritten

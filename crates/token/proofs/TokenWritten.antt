@@ -1,0 +1,234 @@
+-- A token within limits that was written reads back, and the answer's parts hold exactly the token's.
+use mathlib.Core.Path.{_≡_, refl, sym, ap, ap₂, subst, _∙_}
+use mathlib.Core.List.{List, [], _∷_, _++_, append-assoc, append-nil}
+use Prim.Native.Nat.{ℕ, _+_, _-_, _^_, _≤_, _<_}
+use native.Mathlib.Omega.{arith}
+use borrow.Author.Tests.{eq-eqb}
+use lib.ListN.{length, take, drop, length-append, length-drop}
+use Rattle.basis.specs.Basis.{ascii, between}
+use Rattle.basis.specs.Same.{sameOf}
+use Rattle.basis.proofs.Parts.{past, ends, lies}
+use Rattle.cbor.specs.Heads.{head}
+use Rattle.cbor.specs.Strings.{string}
+use Rattle.cbor.specs.declared.Span.the-variants.{Of as Found}
+use Rattle.cbor.proofs.CountLaws.{head-there, count}
+use Rattle.cbor.proofs.HeadLengths.{head-one}
+use Rattle.cbor.proofs.StringLaws.{read-run-written, content-there}
+use Rattle.values.specs.declared.Item.the-variants.{End}
+use Rattle.keys.specs.Keys.{keysOf, indexFrom}
+use Rattle.keys.specs.Maps.{text, entry}
+use Rattle.keys.specs.declared.Names.the-variants.{Token as TokenKeys}
+use Rattle.keys.proofs.KeyLaws.{wanted-written}
+use Rattle.keys.proofs.FieldLaws.{name-field-written, name-lies, number-written}
+use Rattle.scope.specs.Scopes.{Scope, encodeScope, GoodScope}
+use Rattle.scope.proofs.ScopeLaws.{scope-written}
+use Rattle.caveat.specs.Caveats.{Caveat, GoodName}
+use Rattle.token.specs.Tokens.{Token, encodeCaveats, tokenBytes, encodeToken, AllCaveats, GoodToken}
+use Rattle.token.specs.Reading.{rThen, rKeyThen, caveatsThen, cThen, mapThen, frontOf, tagAt, tagField, versionThen, versionAt, versionField}
+use Rattle.token.specs.Reading.{endThen, tidThen, kidThen, vThen, backOf, tokenBy, tokenOf}
+use Rattle.token.specs.declared.Front.the-variants.{Of as FrontOf}
+use Rattle.token.specs.declared.Back.the-variants.{Of as BackOf}
+use Rattle.token.specs.declared.TokenParts.the-variants.{Of}
+use Rattle.token.proofs.CaveatLists.{caveats-written}
+use Rattle.token.proofs.Holds.{HoldsFront, HoldsBack, Holds}
+
+-- c and r, at the front
+pub record FrontWritten (s : List ℕ) (cs : List Caveat) (x : Scope) (next : ℕ) (rest : List ℕ) : Type 0 where
+  pub from : ℕ
+  pub to : ℕ
+  pub scope : ℕ
+  pub answer : frontOf s ≡ FrontOf (length cs) from to scope next
+  pub holds : HoldsFront s cs x (length cs) from to scope next
+  pub behind : drop next s ≡ rest
+
+module _ (cs : List Caveat) (gc : AllCaveats cs) (few : length cs ≤ 64) (x : Scope) (gx : GoodScope x) (s rest : List ℕ) where
+  abbrev n : ℕ
+  n = length cs
+
+  abbrev kc : List ℕ
+  kc = text (ascii "c")
+
+  abbrev kr : List ℕ
+  kr = text (ascii "r")
+
+  abbrev cb : List ℕ
+  cb = encodeCaveats cs
+
+  abbrev rb : List ℕ
+  rb = encodeScope x
+
+  abbrev front-next : ℕ
+  front-next = 0 + length (head 5 6) + length kc + length (head 4 n) + length cb + length kr + length rb
+
+  pub front-written : drop 0 s ≡ head 5 6 ++ (kc ++ (head 4 n ++ (cb ++ (kr ++ (rb ++ rest))))) → FrontWritten s cs x front-next rest
+  unfolding frontOf mapThen cThen caveatsThen rKeyThen rThen keysOf indexFrom sameOf
+  front-written d0 =
+      let a1 = 0 + length (head 5 6) in
+      let d1 = past s (head 5 6) (kc ++ (head 4 n ++ (cb ++ (kr ++ (rb ++ rest))))) 0 d0 in
+      let a2 = a1 + length kc in
+      let d2 = past s kc (head 4 n ++ (cb ++ (kr ++ (rb ++ rest)))) a1 d1 in
+      let a3 = a2 + length (head 4 n) in
+      let d3 = past s (head 4 n) (cb ++ (kr ++ (rb ++ rest))) a2 d2 in
+      let a4 = a3 + length cb in
+      let d4 = past s cb (kr ++ (rb ++ rest)) a3 d3 in
+      let a5 = a4 + length kr in
+      let d5 = past s kr (rb ++ rest) a4 d4 in
+      let a6 = a5 + length rb in
+      let d6 = past s rb rest a5 d5 in
+      let c0 = sym (count s 0 5 6 6 6 (head-there s (kc ++ (head 4 n ++ (cb ++ (kr ++ (rb ++ rest))))) 0 5 6 d0 (omega arith)) refl (omega arith) (omega arith)) in
+      let c1 = wanted-written TokenKeys (ascii "c") (omega arith) 0 refl (omega arith) s (head 4 n ++ (cb ++ (kr ++ (rb ++ rest)))) a1 d1 in
+      let c2 = sym (count s a2 4 0 64 5 (head-there s (cb ++ (kr ++ (rb ++ rest))) a2 4 n d2 (omega arith)) refl (omega arith) few) in
+      let c3 = caveats-written cs gc s (kr ++ (rb ++ rest)) a3 d3 in
+      let c4 = wanted-written TokenKeys (ascii "r") (omega arith) 1 refl (omega arith) s (rb ++ rest) a4 d4 in
+      let w = scope-written x gx s rest a5 d5 in
+      record {
+        from = a3;
+        to = a4;
+        scope = a5;
+        answer = rw (c0, c1, c2, c3, c4, w .answer);
+        holds = record {
+          counted-so = refl;
+          caveats-lie = d3 ∙ ap (λ (t : List ℕ). cb ++ t) (sym d4);
+          caveats-held = lies s cb (kr ++ (rb ++ rest)) a3 d3;
+          scope-lies = d5 ∙ ap (λ (t : List ℕ). rb ++ t) (sym d6);
+          scope-held = lies s rb rest a5 d5;
+        };
+        behind = d6;
+      }
+
+-- s, v, kid and tid, with nothing behind them
+pub record BackWritten (s tb kb ib : List ℕ) (at : ℕ) : Type 0 where
+  pub tag : ℕ
+  pub kid : ℕ
+  pub kid-end : ℕ
+  pub tid : ℕ
+  pub tid-end : ℕ
+  pub answer : backOf s at ≡ BackOf tag kid kid-end tid tid-end
+  pub holds : HoldsBack s tb kb ib tag kid kid-end tid tid-end
+
+module _ (tb kb ib : List ℕ) (lt : length tb ≡ 32) (gk : GoodName kb) (gi : GoodName ib) (s : List ℕ) (at : ℕ) where
+  abbrev ks : List ℕ
+  ks = text (ascii "s")
+
+  abbrev kv : List ℕ
+  kv = text (ascii "v")
+
+  abbrev kk : List ℕ
+  kk = entry "kid" (text kb)
+
+  abbrev ki : List ℕ
+  ki = entry "tid" (text ib)
+
+  tag-written : (rest : List ℕ) → drop at s ≡ ks ++ (string 2 tb ++ rest)
+      → tagField s at ≡ Found (at + length ks + length (head 2 (length tb))) (at + length ks + length (string 2 tb))
+  unfolding tagField tagAt keysOf indexFrom sameOf
+  tag-written rest e =
+      let a = at + length ks in
+      let d = past s ks (string 2 tb ++ rest) at e in
+      rw (
+        wanted-written TokenKeys (ascii "s") (omega arith) 2 refl (omega arith) s (string 2 tb ++ rest) at e,
+        read-run-written s tb rest a 2 d (omega arith) 32 32 (omega arith) (omega arith),
+      )
+      (ap (Found (a + length (head 2 (length tb)))) (ends (head 2 (length tb)) tb a))
+
+  version-written : (p : ℕ) (rest : List ℕ) → drop p s ≡ kv ++ (head 0 1 ++ rest) → versionField s p ≡ End (p + length kv + length (head 0 1))
+  unfolding versionField versionAt versionThen keysOf indexFrom sameOf
+  version-written p rest e =
+      let d = past s kv (head 0 1 ++ rest) p e in
+      rw (
+        wanted-written TokenKeys (ascii "v") (omega arith) 3 refl (omega arith) s (head 0 1 ++ rest) p e,
+        number-written s rest (p + length kv) 1 0xffffffffffffffff (omega arith) (omega arith) d,
+      )
+
+  tag-lies : (p : ℕ) (rest : List ℕ) → drop p s ≡ string 2 tb ++ rest → between s (p + length (head 2 (length tb))) (p + length (head 2 (length tb)) + 32) ≡ tb
+  tag-lies p rest e =
+      let f = p + length (head 2 (length tb)) in
+      let l : f + 32 - f ≡ length tb = omega arith in
+      rw l (content-there s tb rest p 2 e (omega arith))
+
+  -- tid is the last, so that its end is the end of all
+  whole : (p : ℕ) → drop p s ≡ ki ++ [] → p + length ki ≡ length s
+  whole p e =
+      let k = head-one 3 3 (omega arith) in
+      let l : 1 ≤ length ki = simp length-append (omega arith) in
+      let q : length s - p ≡ length ki = sym (length-drop p s) ∙ ap length (e ∙ append-nil ki) in
+      omega arith
+
+  pub back-written : drop at s ≡ ks ++ (string 2 tb ++ (kv ++ (head 0 1 ++ (kk ++ (ki ++ []))))) → BackWritten s tb kb ib at
+  unfolding backOf vThen kidThen tidThen endThen keysOf indexFrom sameOf
+  back-written d0 =
+      let h = head 2 (length tb) in
+      let a1 = at + length ks in
+      let d1 = past s ks (string 2 tb ++ (kv ++ (head 0 1 ++ (kk ++ (ki ++ []))))) at d0 in
+      let a2 = a1 + length (string 2 tb) in
+      let d2 = past s (string 2 tb) (kv ++ (head 0 1 ++ (kk ++ (ki ++ [])))) a1 d1 in
+      let a3 = a2 + length kv in
+      let d3 = past s kv (head 0 1 ++ (kk ++ (ki ++ []))) a2 d2 in
+      let a4 = a3 + length (head 0 1) in
+      let d4 = past s (head 0 1) (kk ++ (ki ++ [])) a3 d3 in
+      let a5 = a4 + length kk in
+      let d5 = past s kk (ki ++ []) a4 d4 in
+      let a6 = a5 + length ki in
+      let lk = gk .most in
+      let li = gi .most in
+      let k1 = a4 + length (text (ascii "kid")) + length (head 3 (length kb)) in
+      let i1 = a5 + length (text (ascii "tid")) + length (head 3 (length ib)) in
+      let c2 = name-field-written TokenKeys 4 (omega arith) (ascii "kid") (omega arith) refl s (ki ++ []) a4 kb gk d4 in
+      let c3 = name-field-written TokenKeys 5 (omega arith) (ascii "tid") (omega arith) refl s [] a5 ib gi d5 in
+      let l : a6 ≡ length s = whole a5 d5 in
+      record {
+        tag = a1 + length h;
+        kid = k1;
+        kid-end = a5;
+        tid = i1;
+        tid-end = a6;
+        answer = rw (tag-written (kv ++ (head 0 1 ++ (kk ++ (ki ++ [])))) d0, version-written a2 (kk ++ (ki ++ [])) d2, c2, c3, eq-eqb a6 (length s) l);
+        holds = record {
+          tag-held = tag-lies a1 (kv ++ (head 0 1 ++ (kk ++ (ki ++ [])))) d1;
+          kid-held = name-lies s (text (ascii "kid")) kb (ki ++ []) a4 (omega arith) d4;
+          tid-held = name-lies s (text (ascii "tid")) ib [] a5 (omega arith) d5;
+        };
+      }
+
+-- the whole token
+pub record Written (s : List ℕ) (t : Token) : Type 0 where
+  pub from : ℕ
+  pub to : ℕ
+  pub scope : ℕ
+  pub scope-end : ℕ
+  pub tag : ℕ
+  pub kid : ℕ
+  pub kid-end : ℕ
+  pub tid : ℕ
+  pub tid-end : ℕ
+  pub answer : tokenOf s ≡ Of (length (t .caveats)) from to scope scope-end tag kid kid-end tid tid-end
+  pub holds : Holds s t (length (t .caveats)) from to scope scope-end tag kid kid-end tid tid-end
+
+pub token-written : (t : Token) → GoodToken t → Written (encodeToken t) t
+unfolding tokenBytes tokenBy
+token-written t g =
+    let s = encodeToken t in
+    let n = length (t .caveats) in
+    let cb = encodeCaveats (t .caveats) in
+    let rb = encodeScope (t .scope) in
+    let kc = text (ascii "c") in
+    let kr = text (ascii "r") in
+    let back : List ℕ =
+    text (ascii "s") ++ (string 2 (t .tag) ++ (text (ascii "v") ++ (head 0 1 ++ (entry "kid" (text (t .kid)) ++ (entry "tid" (text (t .tid)) ++ []))))) in
+    let e : drop 0 s ≡ head 5 6 ++ (kc ++ (head 4 n ++ (cb ++ (kr ++ (rb ++ back))))) = simp (append-assoc, append-nil) in
+    let f = front-written (t .caveats) (g .each) (g .few) (t .scope) (g .good-scope) s back e in
+    let at = 0 + length (head 5 6) + length kc + length (head 4 n) + length cb + length kr + length rb in
+    let r = back-written (t .tag) (t .kid) (t .tid) (g .tag-long) (g .good-kid) (g .good-tid) s at (f .behind) in
+    record {
+      from = f .from;
+      to = f .to;
+      scope = f .scope;
+      scope-end = at;
+      tag = r .tag;
+      kid = r .kid;
+      kid-end = r .kid-end;
+      tid = r .tid;
+      tid-end = r .tid-end;
+      answer = rw (f .answer, r .answer);
+      holds = record { front = f .holds; back = r .holds };
+    }
