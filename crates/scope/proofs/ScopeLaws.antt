@@ -30,7 +30,7 @@ use Rattle.keys.proofs.TextLaws.{text-written, text-held, text-read}
 use Rattle.keys.proofs.StepLaws.{count-went, key-went, span-went, item-went, must-take, must-pass}
 use Rattle.scope.specs.Scopes.{Scope, encodeMethods, encodeScope, GoodMethods, GoodPath, Number64, GoodScope}
 use Rattle.scope.specs.Methods.{methodsOf, afterMethods}
-use Rattle.scope.specs.Reading.{anotherThen, maxBytesThen, limitThen, methodsThen, methodsNext, prefixNext, prefixThen, firstThen, entriesThen, scopeOf}
+use Rattle.scope.specs.Reading.{anotherThen, maxBytesThen, limitThen, methodsThen, methodsNext, prefixNext, prefixThen, firstThen, entriesThen, scopeOf, afterScope}
 use Rattle.scope.specs.declared.Methods.{Methods}
 use Rattle.scope.specs.declared.Methods.the-variants.{Of as MethodsAt, Bad as NoMethods}
 use Rattle.scope.specs.declared.Prefix.{Prefix}
@@ -371,3 +371,29 @@ scope-one x y gx gy t u e =
     let b = scope-written y gy s u 0 e in
     let q = holds-one s x y gx gy (a .holds) (b .holds) (sym (a .answer) ∙ b .answer) in
     (q, one-rest (encodeScope x) (encodeScope y) t u (ap encodeScope q) e)
+
+pub record ScopeWent {A : Type 0} (rest : Prefix → ℕ → ℕ → ℕ → Limit → ℕ → A) (r : ScopeParts) (x : A) : Type 0 where
+  pub part : Prefix
+  pub number : ℕ
+  pub first : ℕ
+  pub behind : ℕ
+  pub limit : Limit
+  pub next : ℕ
+  pub was : r ≡ Of part number first behind limit next
+  pub goes : rest part number first behind limit next ≡ x
+
+-- a step of a reading that ended well; see StepLaws
+pub scope-went : {A : Type 0} {x : A} {bad : ℕ → ℕ → A} → ((kind at : ℕ) → bad kind at ≡ x → ⊥) → (rest : Prefix → ℕ → ℕ → ℕ → Limit → ℕ → A) (r : ScopeParts)
+    → afterScope bad rest r ≡ x → ScopeWent rest r x
+scope-went never rest (Bad kind at) e = let z = never kind at e in elim z [ ]
+scope-went never rest (Of p k f t l n) e = record { part = p; number = k; first = f; behind = t; limit = l; next = n; was = refl; goes = e }
+
+-- where a scope that was read ends
+pub scope-long : (s : List ℕ) (at : ℕ) (x : Scope) → GoodScope x → {part : Prefix} {k from to : ℕ} {limit : Limit} {next : ℕ} → scopeOf s at ≡ Of part k from to limit next
+    → drop at s ≡ encodeScope x ++ drop next s → at + length (encodeScope x) ≡ next
+scope-long s at x g {part} {k} {from} {to} {limit} {next} e d =
+    let w = scope-written x g s (drop next s) at d in
+    same-end (sym (w .answer) ∙ e)
+  where
+    same-end : {p o : Prefix} {k l f g t u n m : ℕ} {a b : Limit} → _≡_ {A = ScopeParts} (Of p k f t a n) (Of o l g u b m) → n ≡ m
+    same-end q = cc

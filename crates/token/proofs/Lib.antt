@@ -2,3 +2,5 @@ pub mod Lent
 pub mod Holds
 pub mod CaveatLists
 pub mod TokenWritten
+pub mod TokenRead
+pub mod OneToken

@@ -204,10 +204,9 @@ pub record Written (s : List ℕ) (t : Token) : Type 0 where
   pub answer : tokenOf s ≡ Of (length (t .caveats)) from to scope scope-end tag kid kid-end tid tid-end
   pub holds : Holds s t (length (t .caveats)) from to scope scope-end tag kid kid-end tid tid-end
 
-pub token-written : (t : Token) → GoodToken t → Written (encodeToken t) t
+pub token-written : (t : Token) → GoodToken t → (s : List ℕ) → s ≡ encodeToken t → Written s t
 unfolding tokenBytes tokenBy
-token-written t g =
-    let s = encodeToken t in
+token-written t g s same =
     let n = length (t .caveats) in
     let cb = encodeCaveats (t .caveats) in
     let rb = encodeScope (t .scope) in
@@ -215,7 +214,7 @@ token-written t g =
     let kr = text (ascii "r") in
     let back : List ℕ =
     text (ascii "s") ++ (string 2 (t .tag) ++ (text (ascii "v") ++ (head 0 1 ++ (entry "kid" (text (t .kid)) ++ (entry "tid" (text (t .tid)) ++ []))))) in
-    let e : drop 0 s ≡ head 5 6 ++ (kc ++ (head 4 n ++ (cb ++ (kr ++ (rb ++ back))))) = simp (append-assoc, append-nil) in
+    let e : drop 0 s ≡ head 5 6 ++ (kc ++ (head 4 n ++ (cb ++ (kr ++ (rb ++ back))))) = same ∙ simp (append-assoc, append-nil) in
     let f = front-written (t .caveats) (g .each) (g .few) (t .scope) (g .good-scope) s back e in
     let at = 0 + length (head 5 6) + length kc + length (head 4 n) + length cb + length kr + length rb in
     let r = back-written (t .tag) (t .kid) (t .tid) (g .tag-long) (g .good-kid) (g .good-tid) s at (f .behind) in
