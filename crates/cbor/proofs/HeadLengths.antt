@@ -16,6 +16,13 @@ module _ (major n : ℕ) where
   unfolding head
   head-one h = rw (lt-ltb n 24 h)
 
+  pub head-two : n < 256 → length (head major n) ≤ 2
+  unfolding head
+  head-two h = rw (lt-ltb n 256 h) (by (ltb n 24)) where
+    by : (a : Bool) → length (pick a ((major * 32 + n) ∷ []) ((major * 32 + 24) ∷ big 1 n)) ≤ 2
+    by true = omega arith
+    by false = omega (arith, bytes-length 1 n)
+
   pub head-three : n < 65536 → length (head major n) ≤ 3
   unfolding head
   head-three h = rw (lt-ltb n 65536 h) (by (ltb n 24) (ltb n 256)) where

@@ -4,3 +4,5 @@ pub mod CaveatLists
 pub mod TokenWritten
 pub mod TokenRead
 pub mod OneToken
+pub mod WritingLaws
+pub mod OneAnswer

@@ -18,7 +18,7 @@ use Rattle.token.proofs.TokenRead.{token-ends}
 pub holds-one : (s : List ℕ) (t u : Token) → GoodToken t → GoodToken u → {a b c d e f g h i j : ℕ} → Holds s t a b c d e f g h i j → Holds s u a b c d e f g h i j → t ≡ u
 holds-one s t u gt gu {a} {b} {c} {d} {e} {f} {g} {h} {i} {j} x y =
     let cs = caveats-one (t .caveats) (u .caveats) (gt .each) (gu .each) (x .front .counted-so ∙ sym (y .front .counted-so)) (drop c s) (drop c s)
-        (sym (x .front .caveats-lie) ∙ y .front .caveats-lie) .0 in
+    (sym (x .front .caveats-lie) ∙ y .front .caveats-lie) .0 in
     let r = scope-one (t .scope) (u .scope) (gt .good-scope) (gu .good-scope) (drop e s) (drop e s) (sym (x .front .scope-lies) ∙ y .front .scope-lies) .0 in
     let tag = sym (x .back .tag-held) ∙ y .back .tag-held in
     let kid = sym (x .back .kid-held) ∙ y .back .kid-held in

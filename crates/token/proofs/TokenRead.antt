@@ -170,7 +170,7 @@ back-read s b at {tag} {kid} {kid-end} {tid} {tid-end} e =
     let k = span-went never (tidThen s (t .from)) (nameField TokenKeys s (v .next) 4) (v .goes) in
     let i = span-went never (endThen s (t .from) (k .from) (k .to)) (nameField TokenKeys s (k .to) 5) (k .goes) in
     let l =
-        must-take (BackOf (t .from) (k .from) (k .to) (i .from) (i .to)) (NoBack 4 (i .to)) (never 4 (i .to)) (eqb (i .to) (length s)) (i .goes) in
+    must-take (BackOf (t .from) (k .from) (k .to) (i .from) (i .to)) (NoBack 4 (i .to)) (never 4 (i .to)) (eqb (i .to) (length s)) (i .goes) in
     let x = tag-read s b at (t .was) in
     let y = name-field-read TokenKeys 4 (omega arith) s b (v .next) (k .was) in
     let z = name-field-read TokenKeys 5 (omega arith) s b (k .to) (i .was) in

@@ -1,2 +1,3 @@
 pub mod Tokens
 pub mod Reading
+pub mod Writing

@@ -20,6 +20,27 @@ pub struct Probed {
     pub third: u64,
 }
 
+/// What a probed reader of a scope, a caveat or a token answers. Kind 0: what the numbers mean stands
+/// with each reader. Kind 4, 5 or 6: a defect at the first of them. Numbers without a meaning are 0.
+#[repr(C)]
+#[derive(Clone, Copy, Debug, PartialEq, Eq)]
+pub struct Parts {
+    pub kind: u32,
+    pub numbers: [u64; 10],
+}
+
+/// What a token is written from: `count` is said of `caveats` and `caveat` together.
+#[derive(Clone, Copy, Debug)]
+pub struct Fields<'a> {
+    pub count: u64,
+    pub caveats: &'a [u8],
+    pub caveat: &'a [u8],
+    pub scope: &'a [u8],
+    pub tag: &'a [u8],
+    pub kid: &'a [u8],
+    pub tid: &'a [u8],
+}
+
 extern "C" {
     fn bhinorpa_keyed_hash(key: *const u8, key_len: usize, message: *const u8, message_len: usize) -> Hashed;
     fn probe_keyed_hash_joined(
@@ -38,6 +59,26 @@ extern "C" {
     fn probe_read_value(s: *const u8, s_len: usize, at: usize, depth: u8) -> Probed;
     fn probe_read_cidr(s: *const u8, s_len: usize) -> Probed;
     fn probe_first_bits_agree(x: *const u8, x_len: usize, y: *const u8, y_len: usize, n: u32) -> Probed;
+    fn probe_read_scope(s: *const u8, s_len: usize, at: usize) -> Parts;
+    fn probe_read_caveat(s: *const u8, s_len: usize) -> Parts;
+    fn probe_read_token(s: *const u8, s_len: usize) -> Parts;
+    fn probe_write_token(
+        count: u64,
+        caveats: *const u8,
+        caveats_len: usize,
+        caveat: *const u8,
+        caveat_len: usize,
+        scope: *const u8,
+        scope_len: usize,
+        tag: *const u8,
+        tag_len: usize,
+        kid: *const u8,
+        kid_len: usize,
+        tid: *const u8,
+        tid_len: usize,
+        room: *mut u8,
+        room_len: usize,
+    ) -> u64;
 }
 
 pub fn keyed_hash(key: &[u8], message: &[u8]) -> Hashed {
@@ -101,4 +142,52 @@ pub fn read_cidr(s: &[u8]) -> Probed {
 pub fn first_bits_agree(x: &[u8], y: &[u8], n: u32) -> Probed {
     // SAFETY: both ranges are those of live slices, which the callee only reads.
     unsafe { probe_first_bits_agree(x.as_ptr(), x.len(), y.as_ptr(), y.len(), n) }
+}
+
+/// Kind 0: start and end of the prefix (0 and 0 without one); how many methods, where the first begins
+/// and the last ends; 1 and max_bytes (0 and 0 without it); the place behind the scope.
+pub fn read_scope(s: &[u8], at: usize) -> Parts {
+    // SAFETY: the range is that of a live slice, which the callee only reads.
+    unsafe { probe_read_scope(s.as_ptr(), s.len(), at) }
+}
+
+/// The caveat at the front of `s`, with anything behind it. Kind 0: first which t it has, counted in exp,
+/// nbf, aud, method, path_prefix, ip_cidr, bytes_le, rate, tenant, amnesia, gov_policy_digest, custom; then
+/// its number or truth, or start and end of its text; or how many methods, where the first begins and the
+/// last ends; the address and how many of its bits count; per_s and burst; start and end of ns, of the
+/// value and of name. The last of the ten numbers is the caveat's length.
+pub fn read_caveat(s: &[u8]) -> Parts {
+    // SAFETY: the range is that of a live slice, which the callee only reads.
+    unsafe { probe_read_caveat(s.as_ptr(), s.len()) }
+}
+
+/// Kind 0: how many caveats, where the first begins and the last ends; start and end of the scope;
+/// where the tag begins; start and end of kid and of tid.
+pub fn read_token(s: &[u8]) -> Parts {
+    // SAFETY: the range is that of a live slice, which the callee only reads.
+    unsafe { probe_read_token(s.as_ptr(), s.len()) }
+}
+
+/// How many bytes of a token stand at the front of the room; 0 if the room is too short.
+pub fn write_token(fields: &Fields, room: &mut [u8]) -> u64 {
+    // SAFETY: all ranges are those of live slices, of which the callee writes only the room.
+    unsafe {
+        probe_write_token(
+            fields.count,
+            fields.caveats.as_ptr(),
+            fields.caveats.len(),
+            fields.caveat.as_ptr(),
+            fields.caveat.len(),
+            fields.scope.as_ptr(),
+            fields.scope.len(),
+            fields.tag.as_ptr(),
+            fields.tag.len(),
+            fields.kid.as_ptr(),
+            fields.kid.len(),
+            fields.tid.as_ptr(),
+            fields.tid.len(),
+            room.as_mut_ptr(),
+            room.len(),
+        )
+    }
 }

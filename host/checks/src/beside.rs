@@ -1,24 +1,31 @@
 //! The proved readers beside the second program's. Each call asks both about one input, compares all
 //! that is promised of the answer, and counts.
 
-use archive::Probed;
-use second::cbor::{Class, Defect};
-use second::{base64url, cbor, cidr, values};
+use archive::{Parts, Probed};
+use second::cbor::{Class, Defect, PARSE_BOUNDS, PARSE_CBOR, UNKNOWN_FIELD};
+use second::token::Fields;
+use second::{base64url, caveat, cbor, cidr, scope, token, values};
 
 use crate::inputs::hex;
+use crate::parts::{caveat_numbers, scope_numbers, token_numbers};
 
 const PARSE_B64: u32 = 3;
-const PARSE_CBOR: u32 = 4;
 const OUT_SHORT: u32 = 36;
 
 /// What a reader says: its numbers, zero behind the last one, or a defect's number and place.
 type Said = Result<[u64; 3], (u32, u64)>;
 
-/// How many inputs were compared, and how many of them both sides took.
+/// What a test of scopes, caveats or tokens compares at least, how much of that is taken, and how much
+/// is refused as parse.cbor, parse.bounds and schema.unknown_field.
+pub type Counts = (usize, usize, [usize; 3]);
+
+/// How many inputs were compared, how many of them both sides took, and how many scopes, caveats and
+/// tokens they refused as parse.cbor, parse.bounds and schema.unknown_field.
 #[derive(Default)]
 pub struct Beside {
     compared: usize,
     taken: usize,
+    defects: [usize; 3],
 }
 
 impl Beside {
@@ -32,6 +39,13 @@ impl Beside {
     pub fn refused(&self, count: usize) {
         let refused = self.compared - self.taken;
         assert!(refused >= count, "{refused} inputs refused of {count}");
+    }
+
+    /// The same of scopes, caveats and tokens, and as many were refused by each of the three numbers.
+    pub fn met(&self, (compared, taken, defects): Counts) {
+        self.reached((compared, taken));
+        let met = self.defects.iter().zip(&defects).all(|(refused, count)| refused >= count);
+        assert!(met, "{:?} inputs refused of {defects:?}", self.defects);
     }
 
     pub fn head(&mut self, s: &[u8], at: usize) {
@@ -62,6 +76,53 @@ impl Beside {
         let proved = said(archive::read_cidr(text), 3);
         let wanted = cidr::read(text).map(|prefix| [u64::from(prefix.address), u64::from(prefix.size), 0]);
         self.compare(proved, wanted.ok_or((PARSE_CBOR, 0)), || format!("prefix {}", hex(text)));
+    }
+
+    pub fn scope(&mut self, s: &[u8], at: usize) {
+        let wanted = scope::read(s, at).map(scope_numbers);
+        self.parts(archive::read_scope(s, at), wanted, || format!("scope at {at} of {}", hex(s)));
+    }
+
+    pub fn caveat(&mut self, s: &[u8]) {
+        let wanted = caveat::read(s, 0).map(caveat_numbers);
+        self.parts(archive::read_caveat(s), wanted, || format!("caveat {}", hex(s)));
+    }
+
+    pub fn token(&mut self, s: &[u8]) {
+        let wanted = token::read(s).map(token_numbers);
+        self.parts(archive::read_token(s), wanted, || format!("token {}", hex(s)));
+    }
+
+    /// All ten numbers are promised, behind a defect's place too.
+    fn parts(&mut self, proved: Parts, wanted: Result<[u64; 10], Defect>, input: impl Fn() -> String) {
+        let wanted = match wanted {
+            Ok(numbers) => Parts { kind: 0, numbers },
+            Err(defect) => {
+                let mut numbers = [0; 10];
+                numbers[0] = defect.place as u64;
+                Parts { kind: defect.number, numbers }
+            }
+        };
+        assert_eq!(proved, wanted, "{}", input());
+        self.compared += 1;
+        match wanted.kind {
+            PARSE_CBOR => self.defects[0] += 1,
+            PARSE_BOUNDS => self.defects[1] += 1,
+            UNKNOWN_FIELD => self.defects[2] += 1,
+            _ => self.taken += 1,
+        }
+    }
+
+    /// Writes a token into a room of `length` bytes and looks at all of it. What is written counts as
+    /// taken.
+    pub fn write(&mut self, fields: &Fields, length: usize) {
+        let (mut room, mut wanted) = (pattern(length), pattern(length));
+        let proved = archive::write_token(&same_fields(fields), &mut room);
+        let (_, written) = answered(&token::write(fields), &mut wanted);
+        assert_eq!(proved, written, "{fields:02x?} into {length} bytes");
+        assert_eq!(room, wanted, "room of {length} bytes behind {fields:02x?}");
+        self.compared += 1;
+        self.taken += usize::from(written > 0);
     }
 
     /// What agrees counts as taken.
@@ -105,6 +166,11 @@ impl Beside {
         self.compared += 1;
         self.taken += usize::from(good.0 == 0);
     }
+}
+
+fn same_fields<'a>(fields: &Fields<'a>) -> archive::Fields<'a> {
+    let Fields { count, caveats, caveat, scope, tag, kid, tid } = *fields;
+    archive::Fields { count, caveats, caveat, scope, tag, kid, tid }
 }
 
 /// The numbers that a reader promises; what it promises nothing of is not looked at.

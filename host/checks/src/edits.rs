@@ -1,5 +1,6 @@
 //! What is done to a good input to make others near it, where slips of a reader show best.
 
+use crate::inputs;
 use crate::Seeded;
 
 /// Up to this length each byte takes all its other values; in longer inputs each takes `FEW`.
@@ -62,4 +63,41 @@ pub fn places(length: usize) -> Vec<usize> {
     let far = [1 << 16, u32::MAX as usize - 1, u32::MAX as usize, 1 << 32, (1 << 32) + 1, 1 << 63];
     let inside = 0..=length + 2;
     inside.chain(far).chain(usize::MAX - 10..=usize::MAX).collect()
+}
+
+/// One of the maps that `maps` makes.
+pub struct Keyed<'a> {
+    pub bytes: Vec<u8>,
+    pub keys: &'a [&'a str],
+    /// Whether its count is that of its keys, and all its values are good.
+    pub whole: bool,
+}
+
+/// Shows `check` a map of every sequence of up to `most` of these keys, under every count about that,
+/// with good values and with each of them spoiled in turn.
+pub fn maps(keys: &[&str], most: usize, good: impl Fn(&str) -> Vec<u8>, mut check: impl FnMut(Keyed)) {
+    for keys in &sequences(keys, most) {
+        for bad in 0..=keys.len() {
+            let mut entries = Vec::new();
+            for (place, &key) in keys.iter().enumerate() {
+                entries.extend(inputs::string(3, key.as_bytes()));
+                entries.extend(if place == bad { vec![0xff] } else { good(key) });
+            }
+            for count in 0..=most + 1 {
+                let bytes = [inputs::head(5, count as u64), entries.clone()].concat();
+                check(Keyed { bytes, keys, whole: count == keys.len() && bad == keys.len() });
+            }
+        }
+    }
+}
+
+fn sequences<'a>(names: &[&'a str], most: usize) -> Vec<Vec<&'a str>> {
+    let mut all = vec![vec![]];
+    let mut longest = all.clone();
+    for _ in 0..most {
+        let longer = |front: &Vec<&'a str>, name: &'a str| [&front[..], &[name]].concat();
+        longest = longest.iter().flat_map(|front| names.iter().map(move |&name| longer(front, name))).collect();
+        all.extend(longest.iter().cloned());
+    }
+    all
 }

@@ -1,9 +1,13 @@
 //! What the tests share: numbers from a seed, the same on every machine and in every run;
-//! inputs made from them; and the proved readers beside the second program's.
+//! inputs made from them; what is done to these; and the proved readers beside the second program's.
 
 pub mod beside;
+pub mod damage;
 pub mod edits;
 pub mod inputs;
+mod parts;
+pub mod tree;
+pub mod trees;
 
 /// SplitMix64.
 pub struct Seeded(pub u64);

@@ -3,9 +3,13 @@
 
 pub const PARSE_CBOR: u32 = 4;
 pub const PARSE_BOUNDS: u32 = 5;
+pub const UNKNOWN_FIELD: u32 = 6;
 
+pub const UNSIGNED: u8 = 0;
 pub const BYTES: u8 = 2;
 pub const TEXT: u8 = 3;
+pub const ARRAY: u8 = 4;
+pub const MAP: u8 = 5;
 
 /// The first defect of a reading: document 01's number for it and where it lies.
 #[derive(Clone, Copy, Debug, PartialEq, Eq)]
@@ -20,6 +24,10 @@ pub(crate) fn malformed(place: usize) -> Defect {
 
 pub(crate) fn out_of_bounds(place: usize) -> Defect {
     Defect { number: PARSE_BOUNDS, place }
+}
+
+pub(crate) fn unknown(place: usize) -> Defect {
+    Defect { number: UNKNOWN_FIELD, place }
 }
 
 /// One head: what stands in its top three bits, its number, and the place behind it.
@@ -79,6 +87,15 @@ fn width_of(value: u64) -> usize {
     bits.div_ceil(8).next_power_of_two()
 }
 
+/// The shortest head that says a number.
+pub fn written_head(major: u8, value: u64) -> Vec<u8> {
+    let width = width_of(value);
+    let low = if width == 0 { value as u8 } else { 24 + width.ilog2() as u8 };
+    let mut bytes = vec![major << 5 | low];
+    bytes.extend(&value.to_be_bytes()[8 - width..]);
+    bytes
+}
+
 /// Start and end of the content of a string of type `major`, `low` to `high` bytes long. The range
 /// is judged before the bytes are looked for, as document 01 orders it.
 pub fn run(s: &[u8], at: usize, major: u8, low: u64, high: u64) -> Result<(usize, usize), Defect> {
@@ -124,6 +141,7 @@ mod tests {
         ];
         for (value, bytes) in examples {
             assert_eq!(head(bytes, 0), Ok(Head { major: 0, value, next: bytes.len() }), "{value}");
+            assert_eq!(written_head(0, value), bytes, "{value}");
         }
         assert_eq!(head(&[0x1a, 0, 0, 0xff, 0xff], 0), Err(malformed(0)));
         assert_eq!(head(&[0x1a, 0x69, 0x55, 0xb9, 0], 0), Ok(Head { major: 0, value: 1_767_225_600, next: 5 }));

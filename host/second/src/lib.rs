@@ -3,7 +3,11 @@
 //! difference between them.
 
 pub mod base64url;
+pub mod caveat;
 pub mod cbor;
 pub mod cidr;
+pub mod cursor;
+pub mod scope;
+pub mod token;
 mod utf8;
 pub mod values;

@@ -1,12 +1,10 @@
 //! The value of a custom caveat: integers, byte strings, text, false, true, null, and arrays of these
 //! inside one another. All else is refused.
 
-use crate::cbor::{head, malformed, out_of_bounds, run, Defect, BYTES, TEXT};
+use crate::cbor::{head, malformed, out_of_bounds, run, Defect, ARRAY, BYTES, TEXT, UNSIGNED};
 use crate::utf8::is_utf8;
 
-const UNSIGNED: u8 = 0;
 const NEGATIVE: u8 = 1;
-const ARRAY: u8 = 4;
 const FALSE: u8 = 0xf4;
 const NULL: u8 = 0xf6;
 
