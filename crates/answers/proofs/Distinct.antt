@@ -4,7 +4,6 @@ use mathlib.Core.Bool.{Bool, true, false, _&&_}
 use mathlib.Core.List.{List, [], _∷_}
 use Prim.Native.Nat.{ℕ}
 use lib.Dec.{eqb}
-use lib.ListN.{length}
 use Rattle.basis.specs.Basis.{pick}
 use Rattle.answers.specs.Answers.{numberOf, nameOf}
 use Rattle.answers.specs.declared.Answer.{Answer}

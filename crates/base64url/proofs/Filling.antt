@@ -1,12 +1,11 @@
 -- The bytes of a text group by group: what the loop of `fill` keeps.
-use mathlib.Core.Path.{_≡_, refl, sym, ap, ap₂, _∙_}
+use mathlib.Core.Path.{_≡_, refl, sym, ap, _∙_}
 use mathlib.Core.Bool.{Bool, true, false}
 use mathlib.Core.List.{List, [], _∷_, _++_, append-assoc}
 use Prim.Native.Nat.{ℕ, zero, suc, _+_, _-_, _*_, _/_, _%_, _≤_, _<_}
 use native.Mathlib.Nat.{le-refl}
-use native.Mathlib.Numerals.{add-one}
 use native.Mathlib.Omega.{arith}
-use borrow.Author.Tests.{lt-ltb, le-ltb, ltb-true, ltb-false}
+use borrow.Author.Tests.{ltb-true}
 use borrow.Rule.Slice.PartMut.{putMid}
 use lib.Dec.{ltb}
 use lib.ListN.{length, take, drop, getD, set, length-append, length-set, length-drop, take-append-drop}
@@ -14,7 +13,6 @@ use lib.Seq.{drop-cons, take-add, length-take-le, take-all}
 use Rattle.basis.specs.Basis.{pick, over}
 use Rattle.basis.proofs.Rooms.{set-over, lent-over}
 use Rattle.base64url.specs.Reading.{digitOf, badAt, bytesOf, byteLength, Fillable}
-use Rattle.base64url.proofs.Letters.{digit-le}
 
 -- where every character is a letter, each is
 pub letter-at : (text : List ℕ) → badAt text ≡ length text → (i : ℕ) → i < length text → digitOf (getD text i 0) < 64

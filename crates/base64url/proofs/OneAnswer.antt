@@ -2,7 +2,6 @@
 use mathlib.Core.Path.{_≡_, ap, _∙_}
 use mathlib.Core.List.{List}
 use Prim.Native.Nat.{ℕ}
-use lib.ListN.{length}
 use Rattle.basis.proofs.OneAnswer.{told}
 use Rattle.base64url.specs.Reading.{judgedOf, bytesOf, leftOf, Filled}
 use Rattle.base64url.specs.Writing.{Encoding}

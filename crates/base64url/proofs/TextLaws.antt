@@ -1,18 +1,18 @@
 -- One text for one list of bytes: decoding what encoding wrote gives the bytes, and whatever decodes is what encoding its bytes
 -- writes.
-use mathlib.Core.Path.{_≡_, refl, sym, ap, _∙_}
+use mathlib.Core.Path.{_≡_, refl, ap}
 use mathlib.Core.List.{List, [], _∷_}
-use Prim.Native.Nat.{ℕ, suc, _+_, _*_, _/_, _%_, _≤_, _<_}
+use Prim.Native.Nat.{ℕ, suc, _+_, _*_, _/_, _%_, _<_}
 use native.Mathlib.Omega.{arith}
 use borrow.Author.Tests.{lt-ltb, le-ltb, ne-eqb}
-use lib.ListN.{length, getD}
-use Rattle.basis.specs.Basis.{pick, IsBytes}
+use lib.ListN.{length}
+use Rattle.basis.specs.Basis.{IsBytes}
 use Rattle.base64url.specs.Base64url.{letterOf, base64url}
 use Rattle.base64url.specs.Reading.{digitOf, badAt, unusedOf, byteLength, judgedOf, bytesOf}
-use Rattle.base64url.specs.declared.Judged.the-variants.{Whole, Fault}
+use Rattle.base64url.specs.declared.Judged.the-variants.{Whole}
 use Rattle.base64url.proofs.Letters.{digit-letter, letter-digit}
 use Rattle.base64url.proofs.Filling.{letter-at, letters-drop}
-use Rattle.base64url.proofs.Decoding.{Sound, sound}
+use Rattle.base64url.proofs.Decoding.{sound}
 
 -- the digits of a text that was written
 module _ (x y z : ℕ) (hx : x < 256) (hy : y < 256) (hz : z < 256) where

@@ -7,7 +7,7 @@ use native.Mathlib.Omega.{arith}
 use borrow.Author.Tests.{le-leb, lt-leb, eq-eqb, ne-eqb}
 use borrow.Rule.Slice.PartMut.{putMid}
 use lib.ListN.{length, take, drop, getD, set, length-append, length-set, length-drop, take-append-drop}
-use lib.Seq.{drop-cons, take-add, length-take-le, take-all}
+use lib.Seq.{take-add, length-take-le, take-all}
 use Rattle.basis.specs.Basis.{over}
 use Rattle.basis.proofs.Rooms.{set-over, lent-over}
 use Rattle.base64url.specs.Base64url.{letterOf, base64url, tailLength, textLength}

@@ -1,5 +1,5 @@
 -- Lent room: a text written whole or not at all, and a part of the room that was lent on to another writer.
-use mathlib.Core.Path.{_≡_, refl, sym, _∙_}
+use mathlib.Core.Path.{_≡_, sym, _∙_}
 use mathlib.Core.List.{List, [], _∷_, _++_, append-assoc, append-nil}
 use Prim.Native.Nat.{ℕ, suc, _+_, _-_, _≤_, _<_}
 use native.Mathlib.Numerals.{add-one}
@@ -8,7 +8,7 @@ use borrow.Author.Tests.{le-leb, lt-leb}
 use borrow.Rule.Slice.PartMut.{putMid, post-is}
 use lib.ListN.{length, take, drop, getD, set, length-append, length-drop}
 use lib.Seq.{drop-cons, set-at, take-length, take-all, drop-length, drop-drop, drop-append-add, take-append-seam}
-use Rattle.basis.specs.Basis.{pick, over, Written}
+use Rattle.basis.specs.Basis.{over, Written}
 
 module _ (text entry : List ℕ) where
   pub too-short : length entry < length text → Written text entry 0 entry
@@ -20,7 +20,7 @@ module _ (text entry : List ℕ) where
       record { counted = rw (le-leb _ _ h) e; content = rw (le-leb _ _ h) (x ∙ rw take-length) }
 
 -- a part from a on is lent to a writer that puts w at its front
-lent : (x w p : List ℕ) (a : ℕ) → a + length w ≤ length x → p ≡ over w (take (length x - a) (drop a x))
+pub lent : (x w p : List ℕ) (a : ℕ) → a + length w ≤ length x → p ≡ over w (take (length x - a) (drop a x))
     → putMid a (length x - a) x p ≡ take a x ++ (w ++ drop (a + length w) x)
 lent x w p a h e =
     let all : take (length x - a) (drop a x) ≡ drop a x = take-all (length x - a) (drop a x) (simp length-drop (omega arith)) in

@@ -1,10 +1,10 @@
 -- Filling a list from the front, one store a turn: one law for every loop of that kind.
-use mathlib.Core.Path.{_≡_, refl, ap, _∙_}
-use mathlib.Core.List.{List, [], _∷_, _++_, append-assoc, append-nil}
-use Prim.Native.Nat.{ℕ, zero, suc, _+_, _≤_, _<_}
+use mathlib.Core.Path.{_≡_, refl, _∙_}
+use mathlib.Core.List.{List, _++_, append-assoc, append-nil}
+use Prim.Native.Nat.{ℕ, suc, _+_, _≤_, _<_}
 use native.Mathlib.Numerals.{add-one}
 use native.Mathlib.Omega.{arith}
-use lib.ListN.{length, drop, set, getD, length-append, length-set, drop-of-length-le}
+use lib.ListN.{length, drop, set, getD, length-set, drop-of-length-le}
 use lib.Seq.{drop-cons, set-at}
 use Rattle.basis.specs.Basis.{tab}
 use Rattle.basis.specs.Tabs.{tab-length}

@@ -1,18 +1,18 @@
 -- Caveats both ways: one within limits that was written reads back, whatever stands behind it; and what reads well is such a caveat.
 use mathlib.Core.Path.{_≡_, refl, sym, ap, _∙_}
-use mathlib.Core.List.{List, [], _∷_, _++_, append-assoc, append-nil}
+use mathlib.Core.List.{List, [], _++_, append-assoc, append-nil}
 use Prim.Native.String.{String}
-use Prim.Native.Nat.{ℕ, zero, suc, _+_, _-_, _^_, _≤_, _<_}
+use Prim.Native.Nat.{ℕ, _+_, _-_, _^_, _<_}
 use native.Mathlib.Omega.{arith}
-use lib.ListN.{length, take, drop, getD, length-append}
+use lib.ListN.{length, drop, getD, length-append}
 use Rattle.basis.specs.Basis.{ascii, IsBytes}
 use Rattle.basis.specs.Same.{sameOf}
-use Rattle.basis.proofs.Parts.{past, ends, on}
+use Rattle.basis.proofs.Parts.{past, on}
 use Rattle.cbor.specs.Heads.{head}
 use Rattle.cbor.specs.Counts.{readCount}
 use Rattle.cbor.proofs.CountLaws.{head-there, there-head, count, counted}
 use Rattle.keys.specs.Keys.{keysOf, indexFrom, indexOfKey, keyAt, wantedKey}
-use Rattle.keys.specs.Maps.{text, entry}
+use Rattle.keys.specs.Maps.{text}
 use Rattle.keys.specs.declared.Names.the-variants.{Caveat as CaveatKeys, T}
 use Rattle.keys.specs.declared.Key.the-variants.{Of as Known}
 use Rattle.keys.proofs.KeyLaws.{key-written, key-read, named-read, index-below, wanted-written, wanted-read}

@@ -1,13 +1,13 @@
 -- One caveat for one encoding: what the parts hold settles the caveat, and so does its encoding.
 use mathlib.Core.Path.{_≡_, refl, sym, ap, ap₂, subst, _∙_}
-use mathlib.Core.List.{List, [], _++_, append-nil}
+use mathlib.Core.List.{List, [], _++_}
 use Prim.Native.Nat.{ℕ}
 use lib.ListN.{length, drop}
 use Rattle.basis.proofs.Parts.{one-rest}
 use Rattle.values.specs.Trees.{Value, encode, Good}
 use Rattle.values.proofs.OneTree.{one-tree}
 use Rattle.scope.proofs.MethodLaws.{methods-one}
-use Rattle.caveat.specs.Caveats.{Caveat, exp, nbf, aud, method, path-prefix, ip-cidr, bytes-le, rate, tenant, amnesia, gov-policy-digest, custom, encodeCaveat, GoodCaveat}
+use Rattle.caveat.specs.Caveats.{Caveat, aud, method, path-prefix, tenant, gov-policy-digest, custom, encodeCaveat, GoodCaveat}
 use Rattle.caveat.specs.declared.Caveat.{Caveat as Part}
 use Rattle.caveat.specs.declared.CaveatParts.{CaveatParts}
 use Rattle.caveat.specs.declared.CaveatParts.the-variants.{Of}

@@ -1,12 +1,12 @@
 -- What reads well as the value of a caveat is what writing that caveat's value gives, within limits.
 use mathlib.Core.Path.{_≡_, refl, sym, ap, subst, _∙_}
 use mathlib.Core.Bool.{Bool, true, false}
-use mathlib.Core.List.{List, [], _∷_, _++_, append-assoc}
+use mathlib.Core.List.{List, _++_, append-assoc}
 use Prim.Native.Nat.{ℕ, zero, suc, _+_, _-_, _^_, _≤_, _<_}
 use native.Mathlib.Omega.{arith}
 use borrow.Author.Tests.{eqb-true, eqb-false}
 use lib.Dec.{eqb}
-use lib.ListN.{length, take, drop, getD}
+use lib.ListN.{length, drop}
 use Rattle.basis.specs.Basis.{ascii, between, IsBytes}
 use Rattle.basis.proofs.Parts.{on, lies}
 use Rattle.cbor.specs.Heads.{head}
@@ -21,29 +21,27 @@ use Rattle.values.specs.declared.Item.the-variants.{End}
 use Rattle.values.specs.Reading.{valueOf}
 use Rattle.values.proofs.TreeReads.{read-encoded}
 use Rattle.values.proofs.TreesRead.{value-read}
-use Rattle.cidr.specs.Prefixes.{Prefix, textOf}
+use Rattle.cidr.specs.Prefixes.{Prefix}
 use Rattle.cidr.specs.Reading.{cidrOf}
 use Rattle.cidr.specs.declared.Cidr.{Cidr}
 use Rattle.cidr.specs.declared.Cidr.the-variants.{Of as CidrOf, Bad as NoCidr}
 use Rattle.cidr.proofs.TextLaws.{reads-text}
 use Rattle.keys.specs.Keys.{keysOf, wantedKey}
 use Rattle.keys.specs.Fields.{nameField, numberAt, numberField}
-use Rattle.keys.specs.Maps.{text, texts, entry}
+use Rattle.keys.specs.Maps.{text, entry}
 use Rattle.keys.specs.declared.Names.the-variants.{Rate as RateKeys, Custom as CustomKeys}
 use Rattle.keys.proofs.KeyLaws.{wanted-read}
 use Rattle.keys.proofs.FieldLaws.{name-field-read, number-field-read}
 use Rattle.keys.proofs.TextLaws.{IsText, text-read}
 use Rattle.keys.proofs.StepLaws.{item-went, span-went, count-went}
-use Rattle.scope.specs.Scopes.{encodeMethods}
 use Rattle.scope.specs.Methods.{methodsOf}
 use Rattle.scope.proofs.MethodLaws.{methods-went, methods-read}
 use Rattle.caveat.specs.Caveats.{Caveat, exp, nbf, aud, method, path-prefix, ip-cidr, bytes-le, rate, tenant, amnesia, gov-policy-digest, custom, vOf, GoodCaveat}
-use Rattle.caveat.specs.Reading.{numbered, worded, numberThen, numberValue, textThen, textValue, digestBad, digestThen, digestValue, methodThen, methodValue}
+use Rattle.caveat.specs.Reading.{numbered, worded, numberThen, numberValue, textThen, textValue, digestThen, digestValue, methodThen, methodValue}
 use Rattle.caveat.specs.Reading.{cidrBy, cidrThen, cidrValue, rateThen, burstThen, rateMap, rateValue, flagThen, amnesiaValue}
 use Rattle.caveat.specs.Reading.{nameThen, customEnd, customThen, nsThen, customMap, customValue, valueAt}
 use Rattle.caveat.specs.declared.Caveat.{Caveat as Part}
 use Rattle.caveat.specs.declared.Caveat.the-variants.{Exp, Nbf, Aud, Method, PathPrefix, IpCidr, BytesLe, Rate, Tenant, Amnesia, GovPolicyDigest, Custom}
-use Rattle.caveat.specs.declared.CaveatParts.{CaveatParts}
 use Rattle.caveat.specs.declared.CaveatParts.the-variants.{Of, Bad}
 use Rattle.caveat.proofs.Holds.{Holds, exp-is, nbf-is, aud-is, method-is, path-is, cidr-is, bytes-is, rate-is, tenant-is, amnesia-is, digest-is, custom-is}
 use Rattle.caveat.proofs.ValuesWritten.{indexOf}

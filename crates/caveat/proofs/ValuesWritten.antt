@@ -4,13 +4,12 @@ use mathlib.Core.Bool.{Bool, true, false}
 use mathlib.Core.List.{List, [], _∷_, _++_, append-assoc}
 use Prim.Native.Nat.{ℕ, _+_, _-_, _/_, _%_, _^_, _≤_, _<_}
 use native.Mathlib.Omega.{arith}
-use lib.ListN.{length, take, drop, length-append}
+use lib.ListN.{length, drop, length-append}
 use lib.Dec.{ltb}
 use Rattle.basis.specs.Basis.{pick, ascii}
 use Rattle.basis.specs.Same.{sameOf}
 use Rattle.basis.proofs.Parts.{past, ends, lies}
 use Rattle.cbor.specs.Heads.{head}
-use Rattle.cbor.specs.declared.Class.{Class}
 use Rattle.cbor.specs.declared.Class.the-variants.{Name, Printable, Path, Hex}
 use Rattle.cbor.proofs.CountLaws.{head-there, count}
 use Rattle.cbor.proofs.StringLaws.{read-run-written}
@@ -18,15 +17,15 @@ use Rattle.values.specs.Trees.{Value, encode, Good}
 use Rattle.values.proofs.TreeReads.{read-encoded}
 use Rattle.cidr.specs.Prefixes.{Prefix, decimal, textOf, Good as GoodPrefix}
 use Rattle.cidr.proofs.TextLaws.{text-reads}
-use Rattle.keys.specs.Keys.{keysOf, indexFrom, moreTs}
-use Rattle.keys.specs.Maps.{text, texts, entry, GoodText}
+use Rattle.keys.specs.Keys.{keysOf, indexFrom}
+use Rattle.keys.specs.Maps.{text, entry, GoodText}
 use Rattle.keys.specs.declared.Names.the-variants.{Rate as RateKeys, Custom as CustomKeys}
 use Rattle.keys.proofs.KeyLaws.{wanted-written}
 use Rattle.keys.proofs.FieldLaws.{number-written, name-lies, name-field-written, number-field-written}
 use Rattle.keys.proofs.TextLaws.{text-written, text-held}
 use Rattle.scope.specs.Scopes.{encodeMethods, GoodMethods}
 use Rattle.scope.proofs.MethodLaws.{methods-written, methods-lie}
-use Rattle.caveat.specs.Caveats.{Caveat, exp, nbf, aud, method, path-prefix, ip-cidr, bytes-le, rate, tenant, amnesia, gov-policy-digest, custom, vOf, simpleOf, GoodName, GoodCaveat}
+use Rattle.caveat.specs.Caveats.{Caveat, exp, nbf, aud, method, path-prefix, ip-cidr, bytes-le, rate, tenant, amnesia, gov-policy-digest, custom, vOf, GoodName, GoodCaveat}
 use Rattle.caveat.specs.Reading.{numbered, worded, numberValue, textValue, digestValue, methodValue, cidrBy, cidrValue, burstThen, rateMap, rateValue, amnesiaValue}
 use Rattle.caveat.specs.Reading.{customEnd, customThen, nsThen, customMap, customValue, valueAt}
 use Rattle.caveat.specs.declared.Caveat.{Caveat as Part}

@@ -1,11 +1,9 @@
 -- What each of the twelve caveats is, which are within limits, and how one is written. Document 01, "Token bytes": "caveat: t,
 -- v. Rate value: burst, per_s, each below 2^32. Custom value: ns, cbor, name"; the names of t are the interop paper's (2.3).
-use mathlib.Core.Path.{_≡_}
 use mathlib.Core.Bool.{Bool, true, false}
 use mathlib.Core.List.{List, _++_}
 use Prim.Native.Nat.{ℕ, _<_, _^_}
 use Prim.Native.String.{String}
-use lib.ListN.{length}
 use Rattle.basis.specs.Basis.{ascii}
 use Rattle.cbor.specs.Heads.{head}
 use Rattle.cbor.specs.declared.Class.the-variants.{Name, Printable, Hex}

@@ -1,15 +1,15 @@
 -- Characters and classes: the code's table gives each byte its kind, and each class is a run of kinds; computed over all bytes.
-use mathlib.Core.Path.{_≡_, refl, sym, ap, ap₂, _∙_}
+use mathlib.Core.Path.{_≡_, refl, sym, ap₂, _∙_}
 use mathlib.Core.Bool.{Bool, true, false, _&&_}
 use mathlib.Core.List.{List, [], _∷_}
-use Prim.Native.Nat.{ℕ, zero, suc, _+_, _≤_, _<_}
+use Prim.Native.Nat.{ℕ, suc, _+_, _≤_, _<_}
 use native.Mathlib.Numerals.{add-one}
 use native.Mathlib.Omega.{arith}
 use borrow.Author.Tests.{le-leb, lt-leb, eqb-true, eq-eqb, ne-eqb}
-use lib.Dec.{eqb, leb}
+use lib.Dec.{eqb}
 use lib.ListN.{length, drop, getD, drop-of-length-le}
 use lib.Seq.{drop-cons}
-use Rattle.basis.specs.Basis.{pick, IsBytes}
+use Rattle.basis.specs.Basis.{IsBytes}
 use Rattle.basis.proofs.All.{all, all-at}
 use Rattle.cbor.specs.Strings.{isName, isPrintable, isUpper, isHex, allOf, contentOf, kindOf, kindsFrom}
 use Rattle.cbor.specs.declared.Class.the-variants.{Name, Printable, Path, Upper, Hex}

@@ -15,7 +15,6 @@ use Rattle.cbor.specs.declared.Head.{Head}
 use Rattle.cbor.specs.declared.Head.the-variants.{Got, Bad as NoHead}
 use Rattle.cbor.proofs.HeadLaws.{read-written, written-read}
 use Rattle.cbor.proofs.StringLaws.{drop-bytes}
-use Rattle.cbor.specs.declared.Count.{Count}
 use Rattle.cbor.specs.declared.Count.the-variants.{Of, Bad}
 
 -- a head that was written at `at`, and one that was read there

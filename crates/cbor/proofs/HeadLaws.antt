@@ -3,15 +3,14 @@ use Rattle.cbor.specs.declared.Width.{Width}
 use mathlib.Core.Path.{_≡_, refl, sym, ap, ap₂, _∙_, subst}
 use mathlib.Core.List.{List, [], _∷_, _++_}
 use mathlib.Core.Bool.{Bool, true, false}
-use mathlib.Core.Logic.{_⊎_, inl, inr, ⊎-elim}
 use Prim.Native.Nat.{ℕ, zero, suc, _+_, _-_, _*_, _/_, _%_, _^_, _≤_, _<_}
-use native.Mathlib.Nat.{pow-suc, div-lt-iff-lt-mul, div-add-mod', mod-lt, zero-lt-suc, suc-inj}
+use native.Mathlib.Nat.{pow-suc, div-lt-iff-lt-mul, div-add-mod', zero-lt-suc}
 use native.Mathlib.Numerals.{add-one}
 use native.Mathlib.Omega.{arith}
 use borrow.Author.Tests.{lt-ltb, le-ltb, ltb-true, ltb-false, eqb-true}
 use Rattle.basis.specs.Basis.{pick, IsBytes}
 use lib.ListN.{length, take, drop, getD, length-append, length-drop, take-append-drop}
-use lib.Seq.{drop-append-seam, take-at, take-suc, take-all, length-take-le, getD-take}
+use lib.Seq.{drop-append-seam, take-at, take-suc, take-all, length-take-le}
 use lib.Dec.{ltb, eqb}
 use lib.Arith.{digits-lt, digits-div, digits-mod}
 use Rattle.cbor.specs.declared.Head.the-variants.{Got, Bad}

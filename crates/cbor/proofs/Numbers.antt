@@ -1,12 +1,11 @@
 -- Laws of big-endian numbers.
-use mathlib.Core.Path.{_≡_, refl, sym, ap, _∙_, subst}
+use mathlib.Core.Path.{_≡_, refl}
 use mathlib.Core.List.{List, [], _∷_, _++_}
-use Prim.Native.Nat.{ℕ, zero, suc, _+_, _*_, _/_, _%_, _^_, _≤_, _<_}
+use Prim.Native.Nat.{ℕ, _+_, _*_, _^_, _≤_, _<_}
 use native.Mathlib.Nat.{pow-suc, pow-le-pow-right, zero-lt-suc}
 use native.Mathlib.Numerals.{add-one}
-use native.Mathlib.Omega.{arith}
-use lib.Arith.{digits-lt, digits-div, digits-mod}
-use Rattle.cbor.specs.Heads.{numberFrom, big}
+use lib.Arith.{digits-lt}
+use Rattle.cbor.specs.Heads.{numberFrom}
 
 -- one digit more
 pub more : (i : ℕ) {v b : ℕ} → v < 256 ^ i → b < 256 → v * 256 + b < 256 ^ (i + 1)

@@ -1,22 +1,21 @@
 -- Reading a string that was written gives its place, and a string that reads well is what writing its content gives: once for
 -- every major type, range and class.
-use mathlib.Core.Path.{_≡_, refl, sym, ap, ap₂, _∙_}
-use mathlib.Core.Bool.{Bool, true, false}
+use mathlib.Core.Path.{_≡_, refl, sym, ap, _∙_}
+use mathlib.Core.Bool.{true}
 use mathlib.Core.List.{List, _++_, append-assoc}
 use Prim.Native.Nat.{ℕ, _+_, _-_, _^_, _≤_, _<_}
 use native.Mathlib.Omega.{arith}
 use borrow.Author.Tests.{le-ltb, eq-eqb}
-use lib.ListN.{length, take, drop, getD, length-append, length-drop, take-append-drop}
+use lib.ListN.{length, take, drop, length-append, length-drop, take-append-drop}
 use lib.Seq.{drop-drop, getD-drop, length-take-le, take-at, drop-at}
-use Rattle.basis.specs.Basis.{pick, IsBytes}
+use Rattle.basis.specs.Basis.{IsBytes}
 use Rattle.cbor.specs.Heads.{head, headAt, readHead}
 use Rattle.cbor.specs.Strings.{string, contentOf, runBy, readRun, contentBy, readString}
 use Rattle.cbor.specs.declared.Class.{Class}
 use Rattle.cbor.specs.declared.Head.the-variants.{Got}
-use Rattle.cbor.specs.declared.Span.{Span}
-use Rattle.cbor.specs.declared.Span.the-variants.{Of, Bad}
+use Rattle.cbor.specs.declared.Span.the-variants.{Of}
 use Rattle.cbor.proofs.HeadLaws.{read-written, written-read}
-use Rattle.cbor.proofs.RunReads.{Found, found}
+use Rattle.cbor.proofs.RunReads.{found}
 
 past : (i n : ℕ) → i + n - i ≡ n
 past i n = omega arith

@@ -1,6 +1,6 @@
 -- Strings: how one is written, its class of content, and the one reading of it. Document 01, "Reading order": "bad head or
 -- type, parse.cbor; length outside its range, parse.bounds; bytes missing, parse.cbor; bad content, parse.cbor".
-use mathlib.Core.Bool.{Bool, true, false, _&&_, _||_}
+use mathlib.Core.Bool.{Bool, true, _&&_, _||_}
 use mathlib.Core.List.{List, [], _∷_, _++_}
 use Prim.Native.Nat.{ℕ, _+_, _-_}
 use lib.ListN.{length, take, drop, getD}

@@ -1,13 +1,13 @@
 -- One spelling: the text of a prefix reads back as that prefix, and what reads as a prefix is its text.
 use mathlib.Core.Path.{_≡_, refl, sym, ap, ap₂, _∙_}
 use mathlib.Core.Bool.{Bool, true, false}
-use mathlib.Core.List.{List, [], _∷_, _++_, append-assoc, append-nil}
-use Prim.Native.Nat.{ℕ, zero, suc, _+_, _-_, _*_, _/_, _%_, _^_, _≤_, _<_}
+use mathlib.Core.List.{List, [], _∷_, _++_, append-nil}
+use Prim.Native.Nat.{ℕ, _+_, _-_, _*_, _/_, _%_, _^_, _≤_, _<_}
 use native.Mathlib.Numerals.{add-one}
 use native.Mathlib.Omega.{arith}
-use borrow.Author.Tests.{lt-ltb, le-ltb, eq-eqb, ne-eqb, ltb-true, ltb-false, eqb-true, eqb-false}
+use borrow.Author.Tests.{lt-ltb, le-ltb, eq-eqb, ltb-true, ltb-false, eqb-true, eqb-false}
 use lib.Dec.{ltb, eqb}
-use lib.ListN.{length, drop, getD, length-append, length-drop}
+use lib.ListN.{length, drop, getD, length-drop}
 use lib.Seq.{drop-cons, drop-drop, drop-at, drop-length}
 use Rattle.basis.specs.Basis.{pick}
 use Rattle.cidr.specs.Prefixes.{decimal, Prefix, textOf, addressOf, Good}
@@ -16,7 +16,7 @@ use Rattle.cidr.specs.declared.Number.{Number}
 use Rattle.cidr.specs.declared.Number.the-variants.{Got, No}
 use Rattle.cidr.specs.declared.Cidr.{Cidr}
 use Rattle.cidr.specs.declared.Cidr.the-variants.{Of, Bad}
-use Rattle.cidr.proofs.NumberReads.{digit-inside, zero-alone, one-digit, two-digits, three-digits, go}
+use Rattle.cidr.proofs.NumberReads.{zero-alone, one-digit, two-digits, three-digits}
 
 -- a digit as it is written
 front-digit : (x : ℕ) (t : List ℕ) → x ≤ 9 → digitFront ((48 + x) ∷ t) ≡ x

@@ -1,5 +1,4 @@
 -- The one reading of a prefix's text, judged whole: a prefix, or none.
-use mathlib.Core.Bool.{Bool, true, false, _&&_}
 use mathlib.Core.List.{List, [], _∷_}
 use Prim.Native.Nat.{ℕ, _+_, _-_, _*_, _%_, _^_, _≤_}
 use lib.Dec.{ltb, eqb}

@@ -5,16 +5,16 @@ use mathlib.Core.List.{List, [], _∷_, _++_, append-nil}
 use Prim.Native.Nat.{ℕ, zero, suc, _+_, _-_, _*_, _/_, _%_, _≤_, _<_, min}
 use native.Mathlib.Nat.{le-refl}
 use native.Mathlib.Omega.{arith}
-use borrow.Author.Tests.{le-leb, lt-leb, leb-true, leb-false, ltb-true, ltb-false}
-use lib.Dec.{leb, ltb}
-use lib.ListN.{length, take, drop, getD, replicate, length-append, length-drop, length-take, List·getD-append, List·getD-eq-default}
+use borrow.Author.Tests.{le-leb, lt-leb, leb-true, leb-false}
+use lib.Dec.{leb}
+use lib.ListN.{length, take, drop, getD, replicate, length-append, length-drop}
 use lib.Seq.{take-append-le, drop-append-le, take-append-add, drop-append-add, take-all, drop-drop, getD-drop, drop-length, take-length}
 use borrow.Rule.Slice.PartMut.{putMid}
-use Rattle.basis.specs.Basis.{pick, tab, over}
+use Rattle.basis.specs.Basis.{tab, over}
 use Rattle.basis.specs.Tabs.{tab-all, tab-same}
 use Rattle.basis.proofs.Rooms.{lent-over}
 use Rattle.mixing.specs.Compression.{compressOf}
-use Rattle.keyed_hash.specs.Tree.{le32, wordsOf, keyed, chunkStart, chunkEnd, lastOf, blocksOf, chunkOf}
+use Rattle.keyed_hash.specs.Tree.{wordsOf, keyed, chunkStart, chunkEnd, lastOf, blocksOf, chunkOf}
 
 -- two halves of sixteen words
 eight : (s : List ℕ) → length s ≡ 8

@@ -11,7 +11,6 @@ use lib.Dec.{leb}
 use lib.Pow.{pow-mono}
 use lib.ListN.{length, take, drop, length-append, length-take, length-drop}
 use lib.Seq.{take-all}
-use Rattle.basis.specs.Basis.{pick}
 use Rattle.keyed_hash.specs.Tree.{chunkOf, parentOf, fullOf, treeOf}
 use Rattle.keyed_hash.specs.Fits.{Fit}
 use Rattle.keyed_hash.proofs.Blocks.{cut}

@@ -2,11 +2,11 @@
 -- laws and the functions' promises, and nothing of how the hash is made.
 use mathlib.Core.Path.{_≡_, refl, ap, _∙_}
 use mathlib.Core.List.{List, _++_}
-use Prim.Native.Nat.{ℕ, _<_, _/_, _%_, _^_}
+use Prim.Native.Nat.{ℕ, _<_}
 use native.Mathlib.Omega.{arith}
 use lib.Dec.{eqb, ltb}
 use lib.ListN.{length, take, drop, getD, replicate, take-append-drop}
-use Rattle.basis.specs.Basis.{pick, tab}
+use Rattle.basis.specs.Basis.{pick}
 use Rattle.basis.specs.Tabs.{tab-length, tab-below}
 use Rattle.answers.specs.Answers.{numberOf}
 use Rattle.answers.specs.declared.Answer.the-variants.{Allow, HashBad}

@@ -7,7 +7,6 @@ use Prim.Native.Nat.{ℕ, _≤_}
 use Prim.Native.String.{String}
 use lib.ListN.{length}
 use Rattle.basis.specs.Basis.{ascii}
-use Rattle.cbor.specs.Heads.{head}
 use Rattle.cbor.specs.Strings.{string, contentOf}
 use Rattle.cbor.specs.declared.Class.{Class}
 

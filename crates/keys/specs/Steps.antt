@@ -1,6 +1,5 @@
 -- One reading, left to right (document 01, "Reading order"): "the first defect is the answer". A step that is right hands what it
 -- found to the rest, and a step's defect is the answer of the whole.
-use mathlib.Core.List.{List}
 use Prim.Native.Nat.{ℕ}
 use Rattle.cbor.specs.declared.Count.{Count}
 use Rattle.cbor.specs.declared.Count.the-variants.{Of as Counted, Bad as NoCount}

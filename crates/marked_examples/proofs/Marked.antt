@@ -1,6 +1,6 @@
 -- Document 01, "Examples on the line": those marked *, shown once, as one table, by computation.
 use mathlib.Core.Path.{_≡_, refl}
-use mathlib.Core.List.{List, [], _∷_}
+use mathlib.Core.List.{[], _∷_}
 use mathlib.Core.Option.{none}
 use Rattle.basis.specs.Basis.{ascii}
 use Rattle.bytes.specs.Bytes.{indexOf, indexAfter}

@@ -1,7 +1,7 @@
 -- One round on from a state and message words: what is left to do is the same.
-use mathlib.Core.Path.{_≡_, refl, ap, ap₂, _∙_}
+use mathlib.Core.Path.{_≡_, ap, ap₂, _∙_}
 use mathlib.Core.List.{List}
-use Prim.Native.Nat.{ℕ, zero, suc}
+use Prim.Native.Nat.{ℕ, suc}
 use Rattle.mixing.specs.declared.Quad.{Quad}
 use Rattle.mixing.specs.Compression.{columnsOf, diagonalsOf, roundOf, movedOf, roundsOf}
 

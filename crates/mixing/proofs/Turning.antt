@@ -1,6 +1,6 @@
 -- A word turned right, from shifts, a mask and xor: once over the number of places n and the rest k of the word.
-use mathlib.Core.Path.{_≡_, refl, sym, ap, ap₂, _∙_}
-use Prim.Native.Nat.{ℕ, _+_, _-_, _*_, _/_, _%_, _^_, _≤_, _<_}
+use mathlib.Core.Path.{_≡_, ap, _∙_}
+use Prim.Native.Nat.{ℕ, _+_, _-_, _*_, _/_, _%_, _^_, _<_}
 use native.Mathlib.Nat.{add-comm, mod-lt, le-refl}
 use lib.Bits.{bitAnd, bitXor, and-mask, xor-shifted, xor-comm}
 use lib.Pow.{pow-pos, shr-lt, shl-exact}

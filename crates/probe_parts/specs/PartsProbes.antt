@@ -4,7 +4,6 @@ use mathlib.Core.Bool.{Bool, true, false}
 use mathlib.Core.List.{List, [], _∷_}
 use Prim.Native.Nat.{ℕ}
 use Rattle.cidr.specs.Prefixes.{addressOf}
-use Rattle.scope.specs.declared.Prefix.{Prefix}
 use Rattle.scope.specs.declared.Prefix.the-variants.{Absent as NoPrefix, Of as PrefixAt}
 use Rattle.scope.specs.declared.Limit.{Limit}
 use Rattle.scope.specs.declared.Limit.the-variants.{Absent as NoLimit, Of as AtMost}

@@ -6,6 +6,9 @@ use scope::Prefix;
 use scope::ScopeParts;
 use token::TokenParts;
 ghost use mathlib.Core.Path.{_≡_};
+ghost use mathlib.Core.List.{_++_};
+ghost use Rattle.basis.specs.Basis.{Written};
+ghost use Rattle.token.specs.Tokens.{tokenBytes};
 ghost use Rattle.cidr.specs.Prefixes.{addressOf};
 ghost use Rattle.scope.specs.Reading.{scopeOf};
 ghost use Rattle.caveat.specs.Reading.{caveatOf};
@@ -256,4 +259,20 @@ pub extern "C" fn probe_read_token(s: &[u8]) -> Parts
     ensures { λ r. ⌜ r ≡ tokenProbe (tokenOf (now (s .entry))) ⌝ }
 {
     token_probe(token::read_token(s))
+}
+
+#[no_mangle]
+pub extern "C" fn probe_write_token(
+    count: u64,
+    caveats: &[u8],
+    caveat: &[u8],
+    scope: &[u8],
+    tag: &[u8],
+    kid: &[u8],
+    tid: &[u8],
+    room: &mut [u8],
+) -> usize
+    ensures { λ r. ⌜ Written (tokenBytes count (now (caveats .entry) ++ now (caveat .entry)) (now (scope .entry)) (now (tag .entry)) (now (kid .entry)) (now (tid .entry))) (now (room .entry)) r (now (room .exit)) ⌝ }
+{
+    token_writing::write_token(count, caveats, caveat, scope, tag, kid, tid, room)
 }

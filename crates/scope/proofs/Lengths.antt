@@ -1,6 +1,5 @@
 -- The longest scope, so that an issued token always fits: every scope within limits is written in at most 567 bytes.
-use mathlib.Core.Path.{_≡_}
-use mathlib.Core.List.{List, [], _∷_, _++_}
+use mathlib.Core.List.{List, [], _∷_}
 use mathlib.Core.Option.{Option, some, none}
 use Prim.Native.Nat.{ℕ, _+_, _*_, _≤_, _<_}
 use native.Mathlib.Omega.{arith}
@@ -8,7 +7,7 @@ use lib.ListN.{length, length-append}
 use Rattle.cbor.specs.Heads.{head}
 use Rattle.cbor.proofs.HeadLengths.{head-one, head-three, head-nine}
 use Rattle.keys.specs.Maps.{text, texts, entryIf, IfPresent, present}
-use Rattle.scope.specs.Scopes.{Scope, encodeMethods, encodeScope, AllMethods, GoodMethods, GoodPath, Number64, GoodScope}
+use Rattle.scope.specs.Scopes.{Scope, encodeMethods, encodeScope, AllMethods, GoodMethods, GoodPath, GoodScope}
 
 texts-short : (ms : List (List ℕ)) → AllMethods ms → length (texts ms) ≤ 17 * length ms
 unfolding texts AllMethods

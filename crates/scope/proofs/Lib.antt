@@ -1,5 +1,8 @@
 pub mod Lengths
 pub mod MethodLaws
-pub mod ScopeLaws
-pub mod OneAnswer
+pub mod Holds
+pub mod ScopeWritten
+pub mod ScopeRead
+pub mod OneScope
 pub mod Inside
+pub mod OneAnswer

@@ -1,10 +1,10 @@
 -- Method lists both ways: a list within limits that was written reads back, and what reads well is such a list, written.
 use mathlib.Core.Path.{_≡_, refl, sym, ap, ap₂, subst, _∙_}
 use mathlib.Core.List.{List, [], _∷_, _++_, append-assoc}
-use Prim.Native.Nat.{ℕ, zero, suc, _+_, _-_, _^_, _≤_, _<_}
+use Prim.Native.Nat.{ℕ, zero, suc, _+_, _-_}
 use native.Mathlib.Nat.{add-zero}
 use native.Mathlib.Omega.{arith}
-use lib.ListN.{length, take, drop}
+use lib.ListN.{length, drop}
 use Rattle.basis.specs.Basis.{IsBytes}
 use Rattle.basis.proofs.Parts.{past, ends}
 use Rattle.cbor.specs.Heads.{head}

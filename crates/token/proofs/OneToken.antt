@@ -1,14 +1,12 @@
 -- One token for one encoding.
-use mathlib.Core.Path.{_≡_, refl, sym, ap, ap₂, subst, _∙_}
-use mathlib.Core.List.{List, _++_}
+use mathlib.Core.Path.{_≡_, refl, sym, _∙_}
+use mathlib.Core.List.{List}
 use Prim.Native.Nat.{ℕ}
-use lib.ListN.{length, drop}
+use lib.ListN.{drop}
 use Rattle.scope.specs.Scopes.{Scope}
-use Rattle.scope.proofs.ScopeLaws.{scope-one}
+use Rattle.scope.proofs.OneScope.{scope-one}
 use Rattle.caveat.specs.Caveats.{Caveat}
 use Rattle.token.specs.Tokens.{Token, encodeToken, GoodToken}
-use Rattle.token.specs.Reading.{tokenOf}
-use Rattle.token.specs.declared.TokenParts.the-variants.{Of}
 use Rattle.token.proofs.CaveatLists.{caveats-one}
 use Rattle.token.proofs.Holds.{Holds}
 use Rattle.token.proofs.TokenWritten.{token-written}

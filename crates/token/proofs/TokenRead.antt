@@ -1,11 +1,11 @@
 -- What reads well as a token is exactly one token within limits, written, and the answer's parts hold what is its.
-use mathlib.Core.Path.{_≡_, refl, sym, ap, ap₂, subst, _∙_}
-use mathlib.Core.List.{List, [], _∷_, _++_, append-assoc, append-nil}
-use Prim.Native.Nat.{ℕ, _+_, _-_, _^_, _≤_, _<_}
+use mathlib.Core.Path.{_≡_, refl, ap, ap₂, _∙_}
+use mathlib.Core.List.{List, [], _++_, append-assoc, append-nil}
+use Prim.Native.Nat.{ℕ, _+_, _-_, _≤_}
 use native.Mathlib.Omega.{arith}
 use borrow.Author.Tests.{eqb-true}
 use lib.Dec.{eqb}
-use lib.ListN.{length, take, drop, length-drop, drop-of-length-le}
+use lib.ListN.{length, drop, length-drop, drop-of-length-le}
 use lib.Seq.{length-take-le}
 use Rattle.basis.specs.Basis.{ascii, between, IsBytes}
 use Rattle.basis.proofs.Parts.{on, lies}
@@ -27,7 +27,7 @@ use Rattle.keys.proofs.FieldLaws.{name-field-read}
 use Rattle.keys.proofs.StepLaws.{item-went, span-went, count-went, must-take}
 use Rattle.scope.specs.Scopes.{Scope, encodeScope, GoodScope}
 use Rattle.scope.specs.Reading.{scopeOf}
-use Rattle.scope.proofs.ScopeLaws.{scope-read, scope-went, scope-long}
+use Rattle.scope.proofs.ScopeRead.{scope-read, scope-went, scope-long}
 use Rattle.caveat.specs.Caveats.{Caveat, GoodName}
 use Rattle.token.specs.Tokens.{Token, encodeCaveats, tokenBytes, encodeToken, AllCaveats, GoodToken}
 use Rattle.token.specs.Reading.{caveatEnd, frontThen, rThen, rKeyThen, caveatsThen, cThen, mapThen, frontOf, tagAt, tagField, versionThen, versionAt, versionField}
@@ -37,7 +37,7 @@ use Rattle.token.specs.declared.Front.the-variants.{Of as FrontOf, Bad a
 use Rattle.token.specs.declared.Back.{Back}
 use Rattle.token.specs.declared.Back.the-variants.{Of as BackOf, Bad as NoBack}
 use Rattle.token.specs.declared.TokenParts.{TokenParts}
-use Rattle.token.specs.declared.TokenParts.the-variants.{Of, Bad}
+use Rattle.token.specs.declared.TokenParts.the-variants.{Of}
 use Rattle.token.proofs.CaveatLists.{caveats-read}
 use Rattle.token.proofs.Holds.{HoldsFront, HoldsBack, Holds}
 

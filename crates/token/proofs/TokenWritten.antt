@@ -1,10 +1,10 @@
 -- A token within limits that was written reads back, and the answer's parts hold exactly the token's.
-use mathlib.Core.Path.{_≡_, refl, sym, ap, ap₂, subst, _∙_}
-use mathlib.Core.List.{List, [], _∷_, _++_, append-assoc, append-nil}
-use Prim.Native.Nat.{ℕ, _+_, _-_, _^_, _≤_, _<_}
+use mathlib.Core.Path.{_≡_, refl, sym, ap, _∙_}
+use mathlib.Core.List.{List, [], _++_, append-assoc, append-nil}
+use Prim.Native.Nat.{ℕ, _+_, _-_, _≤_}
 use native.Mathlib.Omega.{arith}
 use borrow.Author.Tests.{eq-eqb}
-use lib.ListN.{length, take, drop, length-append, length-drop}
+use lib.ListN.{length, drop, length-append, length-drop}
 use Rattle.basis.specs.Basis.{ascii, between}
 use Rattle.basis.specs.Same.{sameOf}
 use Rattle.basis.proofs.Parts.{past, ends, lies}
@@ -21,7 +21,7 @@ use Rattle.keys.specs.declared.Names.the-variants.{Token as TokenKeys}
 use Rattle.keys.proofs.KeyLaws.{wanted-written}
 use Rattle.keys.proofs.FieldLaws.{name-field-written, name-lies, number-written}
 use Rattle.scope.specs.Scopes.{Scope, encodeScope, GoodScope}
-use Rattle.scope.proofs.ScopeLaws.{scope-written}
+use Rattle.scope.proofs.ScopeWritten.{scope-written}
 use Rattle.caveat.specs.Caveats.{Caveat, GoodName}
 use Rattle.token.specs.Tokens.{Token, encodeCaveats, tokenBytes, encodeToken, AllCaveats, GoodToken}
 use Rattle.token.specs.Reading.{rThen, rKeyThen, caveatsThen, cThen, mapThen, frontOf, tagAt, tagField, versionThen, versionAt, versionField}

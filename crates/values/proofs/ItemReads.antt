@@ -1,12 +1,11 @@
 -- What the definition of a value computes to, in the terms that the code has: one law for each way out.
-use mathlib.Core.Path.{_≡_, refl, sym, ap, _∙_}
-use mathlib.Core.Bool.{Bool, true, false}
+use mathlib.Core.Path.{_≡_, refl, sym, _∙_}
+use mathlib.Core.Bool.{true, false}
 use mathlib.Core.List.{List}
 use Prim.Native.Nat.{ℕ, zero, suc, _+_, _-_, _≤_, _<_}
 use native.Mathlib.Omega.{arith}
-use borrow.Author.Tests.{lt-ltb, le-ltb, eq-eqb, ne-eqb}
+use borrow.Author.Tests.{lt-ltb, le-ltb, ne-eqb}
 use lib.ListN.{length, take, drop}
-use Rattle.basis.specs.Basis.{pick}
 use Rattle.cbor.specs.Heads.{readHead}
 use Rattle.cbor.specs.declared.Head.the-variants.{Got, Bad as NoHead}
 use Rattle.values.specs.Utf8.{utf8}

@@ -1,13 +1,12 @@
 -- Reading what was written: the encoding of a tree within limits reads to its end, with anything before and behind it.
 use mathlib.Core.Path.{_≡_, refl, sym, ap, _∙_}
-use mathlib.Core.Bool.{Bool, true, false}
-use mathlib.Core.List.{List, [], _∷_, _++_, append-assoc}
-use Prim.Native.Nat.{ℕ, zero, suc, _+_, _-_, _^_, _≤_, _<_}
+use mathlib.Core.Bool.{true}
+use mathlib.Core.List.{List, _++_, append-assoc}
+use Prim.Native.Nat.{ℕ, zero, suc, _+_, _-_, _^_, _<_}
 use native.Mathlib.Nat.{add-zero}
 use native.Mathlib.Omega.{arith}
 use borrow.Author.Tests.{le-ltb}
-use lib.ListN.{length, take, drop, length-append}
-use Rattle.basis.specs.Basis.{pick}
+use lib.ListN.{length, drop, length-append}
 use Rattle.cbor.specs.Heads.{head}
 use Rattle.cbor.specs.Strings.{string}
 use Rattle.basis.proofs.Parts.{past, ends}
@@ -16,7 +15,7 @@ use Rattle.cbor.proofs.StringLaws.{written-head, fits, content-there}
 use Rattle.values.specs.Utf8.{utf8}
 use Rattle.values.specs.Reading.{runOf, textOf, andThen, itemsOf, valueOf}
 use Rattle.values.specs.Trees.{Value, number, negative, bytes, text, simple, array, Values, none, more, count, encode, encodes, Good, AllGood}
-use Rattle.values.specs.declared.Item.the-variants.{End, Bad}
+use Rattle.values.specs.declared.Item.the-variants.{End}
 use Rattle.values.proofs.ItemReads as reads
 
 module _ (s t c : List ℕ) (at major : ℕ) (e : drop at s ≡ string major c ++ t) (h : length c < 2 ^ 64) where

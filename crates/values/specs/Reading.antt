@@ -1,6 +1,5 @@
 -- The one reading of a custom caveat's value. Document 01: "an integer of either sign, byte string, text (UTF-8 by RFC 3629),
 -- true, false, null, or arrays inside arrays, four deep at most. Array elements are any of these, in any number."
-use mathlib.Core.Bool.{Bool, true, false, _||_}
 use mathlib.Core.List.{List}
 use Prim.Native.Nat.{ℕ, zero, suc, _+_, _-_}
 use lib.ListN.{length, take, drop}

@@ -1,5 +1,5 @@
 -- UTF-8 by RFC 3629, section 4: what may stand first, and what each first byte asks of those behind it.
-use mathlib.Core.Bool.{Bool, true, false}
+use mathlib.Core.Bool.{Bool, false}
 use mathlib.Core.List.{List, [], _∷_}
 use Prim.Native.Nat.{ℕ, _-_}
 use lib.Dec.{ltb, eqb}

@@ -290,7 +290,6 @@ fn the_caveats_of_a_token_end_where_it_says() {
     }
 }
 
-/*
 #[test]
 fn what_is_written_and_read_back() {
     let mut seeded = Seeded(107);
@@ -352,7 +351,6 @@ fn rooms(beside: &mut Beside, fields: &Fields) {
         beside.write(fields, room);
     }
 }
-*/
 
 #[test]
 fn tokens_of_sixty_four_caveats_edited() {

@@ -1,0 +1,23 @@
+-- A token's bytes in the two halves in which they are written, and how many there are.
+use mathlib.Core.List.{List, _++_}
+use Prim.Native.Nat.{ℕ, _+_}
+use lib.ListN.{length}
+use Rattle.cbor.specs.Heads.{head}
+use Rattle.cbor.specs.Strings.{string}
+use Rattle.keys.specs.Maps.{text}
+use Rattle.basis.specs.Basis.{ascii}
+
+-- c and r
+unfoldable pub frontBytes : ℕ → List ℕ → List ℕ → List ℕ → List ℕ
+frontBytes n caveats caveat scope =
+    head 5 6 ++ text (ascii "c") ++ head 4 n ++ caveats ++ caveat ++ text (ascii "r") ++ scope
+
+-- s, v, kid and tid
+unfoldable pub backBytes : List ℕ → List ℕ → List ℕ → List ℕ
+backBytes tag kid tid =
+    text (ascii "s") ++ string 2 tag ++ (text (ascii "v") ++ head 0 1 ++ text (ascii "kid")) ++ text kid ++ text (ascii "tid") ++ text tid
+
+-- by the lengths of its parts; a head is as long for one major type as for another
+abbrev pub tokenLength : ℕ → ℕ → ℕ → ℕ → ℕ → ℕ → ℕ
+tokenLength n caveats scope tag kid tid =
+    18 + (length (head 0 n) + length (head 0 tag)) + (length (head 0 kid) + length (head 0 tid)) + caveats + scope + tag + kid + tid

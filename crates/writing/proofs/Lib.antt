@@ -1,0 +1,4 @@
+pub mod PlacingLaws
+pub mod BigLoop
+pub mod Writers
+pub mod OneAnswer
