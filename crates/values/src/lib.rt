@@ -53,6 +53,14 @@ fn lead_of(c: u8) -> Tail
             high: 0xbf,
         };
     }
+    lead_of_four(c)
+}
+
+// First bytes from ED on.
+fn lead_of_four(c: u8) -> Tail
+    requires { ⌜ 0xec < c ⌝ }
+    ensures { λ r. ⌜ r ≡ leadOf c ⌝ }
+{
     if c == 0xed {
         return Tail::Due {
             n: 2,
@@ -60,14 +68,6 @@ fn lead_of(c: u8) -> Tail
             high: 0x9f,
         };
     }
-    lead_of_four(c)
-}
-
-// First bytes from EE on.
-fn lead_of_four(c: u8) -> Tail
-    requires { ⌜ 0xed < c ⌝ }
-    ensures { λ r. ⌜ r ≡ leadOf c ⌝ }
-{
     if c < 0xf0 {
         return Tail::Due {
             n: 2,

@@ -29,6 +29,21 @@ pub struct Parts {
     pub numbers: [u64; 10],
 }
 
+/// What the lookup in a key table answers: `found` is 1 and the key stands here, or all is 0.
+#[derive(Clone, Copy, Debug, PartialEq, Eq)]
+pub struct Key {
+    pub found: u32,
+    pub bytes: [u8; 32],
+}
+
+/// What the probed reader of a request answers. Kind 2: malformed, and all numbers are 0.
+#[repr(C)]
+#[derive(Clone, Copy, Debug, PartialEq, Eq)]
+pub struct RequestParts {
+    pub kind: u32,
+    pub numbers: [u64; 20],
+}
+
 /// What a token is written from: `count` is said of `caveats` and `caveat` together.
 #[derive(Clone, Copy, Debug)]
 pub struct Fields<'a> {
@@ -79,6 +94,18 @@ extern "C" {
         room: *mut u8,
         room_len: usize,
     ) -> u64;
+    fn probe_table_ok(table: *const u8, table_len: usize) -> u32;
+    fn probe_lookup(
+        table: *const u8,
+        table_len: usize,
+        tid: *const u8,
+        tid_len: usize,
+        kid: *const u8,
+        kid_len: usize,
+        room: *mut u8,
+        room_len: usize,
+    ) -> usize;
+    fn probe_read_request(s: *const u8, s_len: usize) -> RequestParts;
 }
 
 pub fn keyed_hash(key: &[u8], message: &[u8]) -> Hashed {
@@ -190,4 +217,36 @@ pub fn write_token(fields: &Fields, room: &mut [u8]) -> u64 {
             room.len(),
         )
     }
+}
+
+/// 1 where the whole key table is good, else 0.
+pub fn table_ok(table: &[u8]) -> u32 {
+    // SAFETY: the range is that of a live slice, which the callee only reads.
+    unsafe { probe_table_ok(table.as_ptr(), table.len()) }
+}
+
+pub fn lookup(table: &[u8], tid: &[u8], kid: &[u8]) -> Key {
+    let mut bytes = [0; 32];
+    // SAFETY: all ranges are those of live slices, of which the callee writes only the room.
+    let length = unsafe {
+        probe_lookup(
+            table.as_ptr(),
+            table.len(),
+            tid.as_ptr(),
+            tid.len(),
+            kid.as_ptr(),
+            kid.len(),
+            bytes.as_mut_ptr(),
+            bytes.len(),
+        )
+    };
+    Key { found: u32::from(length == bytes.len()), bytes }
+}
+
+/// Kind 0: now, body size, skew and 1 for amnesia; 1 and where the peer's four bytes begin (0 and 0
+/// without a peer); the same of the digest's 64 digits; 1, per_s and burst (0, 0 and 0 without a rate);
+/// start and end of method, of path and of tenant; 1, start and end of the audience (0, 0 and 0 without).
+pub fn read_request(s: &[u8]) -> RequestParts {
+    // SAFETY: the range is that of a live slice, which the callee only reads.
+    unsafe { probe_read_request(s.as_ptr(), s.len()) }
 }

@@ -1,14 +1,15 @@
 //! The proved readers beside the second program's. Each call asks both about one input, compares all
 //! that is promised of the answer, and counts.
 
-use archive::{Parts, Probed};
+use archive::{Key, Parts, Probed, RequestParts};
 use second::cbor::{Class, Defect, PARSE_BOUNDS, PARSE_CBOR, UNKNOWN_FIELD};
 use second::token::Fields;
-use second::{base64url, caveat, cbor, cidr, scope, token, values};
+use second::{base64url, caveat, cbor, cidr, request, scope, table, token, values};
 
 use crate::inputs::hex;
-use crate::parts::{caveat_numbers, scope_numbers, token_numbers};
+use crate::parts::{caveat_numbers, request_numbers, scope_numbers, token_numbers};
 
+const CTX_BAD: u32 = 2;
 const PARSE_B64: u32 = 3;
 const OUT_SHORT: u32 = 36;
 
@@ -18,6 +19,10 @@ type Said = Result<[u64; 3], (u32, u64)>;
 /// What a test of scopes, caveats or tokens compares at least, how much of that is taken, and how much
 /// is refused as parse.cbor, parse.bounds and schema.unknown_field.
 pub type Counts = (usize, usize, [usize; 3]);
+
+/// What a test compares at least where an input is taken, found or agrees, or is not: how much, how much
+/// of that is, and how much is not.
+pub type Outcomes = (usize, usize, usize);
 
 /// How many inputs were compared, how many of them both sides took, and how many scopes, caveats and
 /// tokens they refused as parse.cbor, parse.bounds and schema.unknown_field.
@@ -39,6 +44,12 @@ impl Beside {
     pub fn refused(&self, count: usize) {
         let refused = self.compared - self.taken;
         assert!(refused >= count, "{refused} inputs refused of {count}");
+    }
+
+    /// All three.
+    pub fn judged(&self, (compared, taken, refused): Outcomes) {
+        self.reached((compared, taken));
+        self.refused(refused);
     }
 
     /// The same of scopes, caveats and tokens, and as many were refused by each of the three numbers.
@@ -91,6 +102,36 @@ impl Beside {
     pub fn token(&mut self, s: &[u8]) {
         let wanted = token::read(s).map(token_numbers);
         self.parts(archive::read_token(s), wanted, || format!("token {}", hex(s)));
+    }
+
+    pub fn table(&mut self, table: &[u8]) {
+        let good = table::read(table).is_some();
+        assert_eq!(archive::table_ok(table), u32::from(good), "table {}", hex(table));
+        self.compared += 1;
+        self.taken += usize::from(good);
+    }
+
+    /// A row that is found counts as taken.
+    pub fn lookup(&mut self, table: &[u8], tid: &[u8], kid: &[u8]) {
+        let key = table::lookup(table, tid, kid);
+        let mut wanted = Key { found: u32::from(key.is_some()), bytes: [0; 32] };
+        if let Some(key) = key {
+            wanted.bytes.copy_from_slice(key);
+        }
+        let proved = archive::lookup(table, tid, kid);
+        assert_eq!(proved, wanted, "{} and {} in table {}", hex(tid), hex(kid), hex(table));
+        self.compared += 1;
+        self.taken += usize::from(key.is_some());
+    }
+
+    pub fn request(&mut self, s: &[u8]) {
+        let wanted = match request::read(s) {
+            Some(request) => RequestParts { kind: 0, numbers: request_numbers(&request) },
+            None => RequestParts { kind: CTX_BAD, numbers: [0; 20] },
+        };
+        assert_eq!(archive::read_request(s), wanted, "request {}", hex(s));
+        self.compared += 1;
+        self.taken += usize::from(wanted.kind == 0);
     }
 
     /// All ten numbers are promised, behind a defect's place too.

@@ -6,6 +6,9 @@ pub mod damage;
 pub mod edits;
 pub mod inputs;
 mod parts;
+pub mod requests;
+pub mod strings;
+pub mod tables;
 pub mod tree;
 pub mod trees;
 

@@ -1,8 +1,9 @@
-//! What the second program reads, in the ten numbers that the archive's probes hand out. Numbers that
-//! mean nothing are 0.
+//! What the second program reads, in the numbers that the archive's probes hand out: ten of a scope, a
+//! caveat or a token, twenty of a request. Numbers that mean nothing are 0.
 
 use second::caveat::{Caveat, Demand};
 use second::cursor::{List, Span};
+use second::request::{Rate, Request};
 use second::scope::Scope;
 use second::token::Token;
 
@@ -30,6 +31,29 @@ pub fn caveat_numbers(caveat: Caveat) -> [u64; 10] {
     let mut numbers = filled(&[&[kind], &said[..]].concat());
     numbers[9] = caveat.next as u64;
     numbers
+}
+
+pub fn request_numbers(request: &Request) -> [u64; 20] {
+    let Rate { per_s, burst } = request.rate.unwrap_or(Rate { per_s: 0, burst: 0 });
+    let parts = [
+        &[request.now, request.body_size, request.skew, u64::from(request.amnesia)],
+        &stated(request.peer)[..2],
+        &stated(request.digest)[..2],
+        &[u64::from(request.rate.is_some()), u64::from(per_s), u64::from(burst)],
+        &span(request.method),
+        &span(request.path),
+        &span(request.tenant),
+        &stated(request.audience),
+    ];
+    let mut numbers = [0; 20];
+    numbers.copy_from_slice(&parts.concat());
+    numbers
+}
+
+/// Whether a part is there, and where it begins and ends.
+fn stated(part: Option<Span>) -> [u64; 3] {
+    let [from, to] = span(part.unwrap_or((0, 0)));
+    [u64::from(part.is_some()), from, to]
 }
 
 fn demand_numbers(demand: Demand) -> (u64, Vec<u64>) {

@@ -2,6 +2,7 @@
 //! those at an end of what document 01 allows.
 
 use crate::inputs;
+use crate::strings::{digest, method, name, path, printable};
 use crate::tree::Node;
 use crate::Seeded;
 
@@ -11,46 +12,8 @@ pub const KINDS: [&str; 12] = [
     "gov_policy_digest", "custom",
 ];
 
-const NAME: &[u8] = b"ABCDEFGHIJKLMNOPQRSTUVWXYZabcdefghijklmnopqrstuvwxyz0123456789-._";
-const UPPER: &[u8] = b"ABCDEFGHIJKLMNOPQRSTUVWXYZ";
-const HEX: &[u8] = b"0123456789abcdef";
-
-fn of(alphabet: &[u8], length: usize, seeded: &mut Seeded) -> Vec<u8> {
-    (0..length).map(|_| alphabet[seeded.below(alphabet.len())]).collect()
-}
-
-/// A length of 1 to `most`: one at an end of a range or where heads grow, or a small one.
-fn length(most: usize, seeded: &mut Seeded) -> usize {
-    let ends = [1, 2, 23, 24, most - 1, most];
-    match seeded.below(4) {
-        0 => ends[seeded.below(ends.len())].clamp(1, most),
-        _ => 1 + seeded.below(most.min(12)),
-    }
-}
-
-pub fn name(seeded: &mut Seeded) -> Vec<u8> {
-    let length = length(64, seeded);
-    of(NAME, length, seeded)
-}
-
-fn method(seeded: &mut Seeded) -> Vec<u8> {
-    let length = length(16, seeded);
-    of(UPPER, length, seeded)
-}
-
-fn digest(seeded: &mut Seeded) -> Vec<u8> {
-    of(HEX, 64, seeded)
-}
-
-fn printable(most: usize, seeded: &mut Seeded) -> Vec<u8> {
-    (0..length(most, seeded)).map(|_| b'!' + seeded.below(94) as u8).collect()
-}
-
-fn path(seeded: &mut Seeded) -> Vec<u8> {
-    let mut path = printable(256, seeded);
-    path[0] = b'/';
-    path
-}
+/// How long a prefix may be.
+const PREFIX: usize = 256;
 
 fn address(seeded: &mut Seeded) -> Vec<u8> {
     let size = seeded.below(33) as u32;
@@ -107,7 +70,7 @@ pub fn demand(kind: usize, seeded: &mut Seeded) -> Node {
         "exp" | "nbf" | "bytes_le" => Node::number(inputs::number(seeded)),
         "aud" => Node::text(&printable(128, seeded)),
         "method" => some_methods(seeded),
-        "path_prefix" => Node::text(&path(seeded)),
+        "path_prefix" => Node::text(&path(PREFIX, seeded)),
         "ip_cidr" => Node::text(&address(seeded)),
         "rate" => rate(small(seeded), small(seeded)),
         "tenant" => Node::text(&name(seeded)),
@@ -132,7 +95,7 @@ pub fn caveat(kind: usize, seeded: &mut Seeded) -> Node {
 pub fn scope(seeded: &mut Seeded) -> Node {
     let mut entries = vec![("methods", some_methods(seeded))];
     if seeded.below(2) == 0 {
-        entries.insert(0, ("prefix", Node::text(&path(seeded))));
+        entries.insert(0, ("prefix", Node::text(&path(PREFIX, seeded))));
     }
     if seeded.below(2) == 0 {
         entries.push(("max_bytes", Node::number(inputs::number(seeded))));

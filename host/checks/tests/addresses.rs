@@ -1,7 +1,7 @@
 //! Address prefixes and first bits: the proved readers beside the second program's. What is made good
 //! or bad on purpose is held to that as well, so that a slip which both readers share shows too.
 
-use checks::beside::Beside;
+use checks::beside::{Beside, Outcomes};
 use checks::edits::{changes, cuts, spoiled};
 use checks::Seeded;
 use second::cidr::{first_bits_agree, read, Prefix};
@@ -22,27 +22,22 @@ const WIDE: [&str; 8] = [
 const FRONTS: [&str; 10] = ["0", "00", "000", "+", "-", " ", "\t", "0x", "-0", "+0"];
 
 /// What each test compares at least, and how much of that is taken, or agrees, and how much is not.
-const SIZES: (usize, usize, usize) = (118_800, 7000, 111_000);
-const BYTES: (usize, usize, usize) = (8064, 2048, 6016);
-const COUNTS: (usize, usize, usize) = (3024, 99, 2925);
-const ZEROS: (usize, usize, usize) = (1419, 129, 1290);
-const MARKS: (usize, usize, usize) = (1954, 101, 1853);
-const CHANGED: (usize, usize, usize) = (1_030_000, 10_000, 1_020_000);
-const ADDED: (usize, usize, usize) = (1_100_000, 2000, 1_100_000);
-const LONG: (usize, usize, usize) = (671, 10, 661);
-const RANDOM: (usize, usize, usize) = (700_000, 48_000, 650_000);
-const LENGTHS: (usize, usize, usize) = (302_872, 52_000, 250_000);
-const ONE_BIT: (usize, usize, usize) = (99_008, 48_416, 50_592);
-const LARGE: (usize, usize, usize) = (1160, 526, 634);
+const SIZES: Outcomes = (118_800, 7000, 111_000);
+const BYTES: Outcomes = (8064, 2048, 6016);
+const COUNTS: Outcomes = (3024, 99, 2925);
+const ZEROS: Outcomes = (1419, 129, 1290);
+const MARKS: Outcomes = (1954, 101, 1853);
+const CHANGED: Outcomes = (1_030_000, 10_000, 1_020_000);
+const ADDED: Outcomes = (1_100_000, 2000, 1_100_000);
+const LONG: Outcomes = (671, 10, 661);
+const RANDOM: Outcomes = (700_000, 48_000, 650_000);
+const LENGTHS: Outcomes = (302_872, 52_000, 250_000);
+const ONE_BIT: Outcomes = (99_008, 48_416, 50_592);
+const LARGE: Outcomes = (1160, 526, 634);
 
 /// The inputs from a seed together; what is gone through exhaustively comes on top.
 const SEEDED: usize = 3_200_000;
 const _: () = assert!(SIZES.0 + CHANGED.0 + ADDED.0 + RANDOM.0 + LENGTHS.0 >= SEEDED);
-
-fn reached(beside: &Beside, (compared, taken, refused): (usize, usize, usize)) {
-    beside.reached((compared, taken));
-    beside.refused(refused);
-}
 
 fn text(address: u32, size: impl std::fmt::Display) -> Vec<u8> {
     let [a, b, c, d] = address.to_be_bytes();
@@ -92,7 +87,7 @@ fn every_size_and_every_bit_past_it() {
             beside.cidr(&text(any, size));
         }
     }
-    reached(&beside, SIZES);
+    beside.judged(SIZES);
 }
 
 #[test]
@@ -112,7 +107,7 @@ fn every_number_in_each_place_of_the_address() {
             }
         }
     }
-    reached(&beside, BYTES);
+    beside.judged(BYTES);
 }
 
 #[test]
@@ -128,7 +123,7 @@ fn every_number_as_the_size() {
             beside.cidr(&text);
         }
     }
-    reached(&beside, COUNTS);
+    beside.judged(COUNTS);
 }
 
 #[test]
@@ -152,7 +147,7 @@ fn what_stands_before_a_number() {
             refuse(&mut beside, &text(0, format!("{front}{size}")));
         }
     }
-    reached(&beside, ZEROS);
+    beside.judged(ZEROS);
 }
 
 #[test]
@@ -181,7 +176,7 @@ fn marks_missing_doubled_and_in_every_order() {
         assert_eq!(read(whole.as_bytes()).is_some(), whole == "0.0.0.0/0");
         beside.cidr(whole.as_bytes());
     }
-    reached(&beside, MARKS);
+    beside.judged(MARKS);
 }
 
 #[test]
@@ -197,7 +192,7 @@ fn each_byte_changed_to_every_other() {
         beside.cidr(&good);
         changes(&good, &mut seeded, |changed| beside.cidr(changed));
     }
-    reached(&beside, CHANGED);
+    beside.judged(CHANGED);
 }
 
 #[test]
@@ -219,7 +214,7 @@ fn cut_at_every_byte_and_every_byte_added() {
             }
         }
     }
-    reached(&beside, ADDED);
+    beside.judged(ADDED);
 }
 
 #[test]
@@ -245,7 +240,7 @@ fn empty_and_long_texts() {
         refuse(&mut beside, &random);
         refuse(&mut beside, &good.repeat(LENGTH / good.len()));
     }
-    reached(&beside, LONG);
+    beside.judged(LONG);
 }
 
 /// A text with the marks of a prefix in place, and numbers of any one to three digits between them.
@@ -276,7 +271,7 @@ fn random_texts_and_spoiled_ones() {
         good[at] = ALPHABET[seeded.below(12)];
         beside.cidr(&good);
     }
-    reached(&beside, RANDOM);
+    beside.judged(RANDOM);
 }
 
 fn flip(bytes: &mut [u8], bit: usize) {
@@ -316,7 +311,7 @@ fn first_bits_of_every_two_lengths() {
             }
         }
     }
-    reached(&beside, LENGTHS);
+    beside.judged(LENGTHS);
 }
 
 #[test]
@@ -333,7 +328,7 @@ fn strings_one_bit_apart() {
             }
         }
     }
-    reached(&beside, ONE_BIT);
+    beside.judged(ONE_BIT);
 }
 
 #[test]
@@ -352,5 +347,5 @@ fn more_bits_than_there_are() {
             bits(&mut beside, &[], &longer, n, n == 0);
         }
     }
-    reached(&beside, LARGE);
+    beside.judged(LARGE);
 }

@@ -6,7 +6,7 @@ use checks::edits::{changes, cuts, spoiled};
 use checks::inputs::{self, EDGES, REFUSED};
 use checks::tree::Node;
 use checks::trees::{self, token_of, KINDS};
-use checks::{damage, Seeded};
+use checks::{damage, strings, Seeded};
 use second::cbor::Defect;
 use second::token::{read, write, Fields};
 
@@ -301,7 +301,7 @@ fn what_is_written_and_read_back() {
         let one_more = turn % 2 == 1 && held < 64;
         let caveat = if one_more { trees::caveat(turn % 12, &mut seeded).laid() } else { vec![] };
         let (scope, tag) = (trees::scope(&mut seeded).laid(), seeded.bytes(32));
-        let (kid, tid) = (trees::name(&mut seeded), trees::name(&mut seeded));
+        let (kid, tid) = (strings::name(&mut seeded), strings::name(&mut seeded));
         let fields = Fields {
             count: (held + usize::from(one_more)) as u64,
             caveats: &caveats,

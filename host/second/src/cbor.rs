@@ -49,7 +49,7 @@ pub enum Class {
 }
 
 impl Class {
-    fn admits(self, content: &[u8]) -> bool {
+    pub(crate) fn admits(self, content: &[u8]) -> bool {
         let every = |good: fn(&u8) -> bool| content.iter().all(good);
         match self {
             Class::Name => every(|c| c.is_ascii_alphanumeric() || b"-._".contains(c)),

@@ -27,15 +27,11 @@ returns-5 : tie.Need-returns-5
 unfolding leadOf
 returns-5 c = rw (le-ltb _ _ (c .before .before .before .before .if1 .left), le-ltb _ _ (c .before .before .before .if2 .left), le-ltb _ _ (c .before .before .if3 .left), ne-eqb _ _ (c .before .if4 .left), lt-ltb _ _ (c .if5 .taken))
 
-returns-6 : tie.Need-returns-6
-unfolding leadOf
-returns-6 c = rw (c .if6 .taken)
-
 lead-of-four-requires : tie.Need-lead-of-four-requires
 lead-of-four-requires c κs = search needs
 
-returns-7 : tie.Need-returns-7
-returns-7 c = search needs
+returns-6 : tie.Need-returns-6
+returns-6 c = search needs
 
 pub lead-of-spec : {M : Type 1} → statement M
 lead-of-spec =
@@ -46,6 +42,5 @@ lead-of-spec =
     returns-3
     returns-4
     returns-5
-    returns-6
     lead-of-four-requires
-    returns-7)
+    returns-6)

@@ -1,0 +1,4 @@
+pub mod Littles
+pub mod Runs
+pub mod Fields
+pub mod OneAnswer

@@ -1,0 +1,6 @@
+pub mod Ordering
+pub mod Rows
+pub mod Walks
+pub mod TableLaws
+pub mod OneTable
+pub mod OneAnswer

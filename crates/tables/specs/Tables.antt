@@ -1,0 +1,39 @@
+-- What a key table is, which are good, and how one is written. Document 01, "House records": "Key table: 0 to 64 records of kind 1,
+-- body: tid length (1 byte), tid, kid length, kid, 32 key bytes; strictly ascending"; tid and kid as everywhere: "1 to 64 of letters,
+-- digits, "-", ".", "_"".
+use mathlib.Core.Path.{_≡_}
+use mathlib.Core.Bool.{true}
+use mathlib.Core.List.{List, [], _∷_, _++_}
+use Prim.Native.Nat.{ℕ, _≤_}
+use lib.ListN.{length}
+use Rattle.cbor.specs.declared.Class.the-variants.{Name}
+use Rattle.keys.specs.Maps.{GoodText}
+use Rattle.records.specs.Records.{counted, recordBytes}
+use Rattle.tables.specs.Order.{ascends}
+
+pub record Row : Type 0 where
+  pub tid : List ℕ
+  pub kid : List ℕ
+  pub key : List ℕ
+
+unfoldable pub encodeRow : Row → List ℕ
+encodeRow r = recordBytes 1 (counted 1 (r .tid) ++ (counted 1 (r .kid) ++ r .key))
+
+unfoldable pub encodeTable : List Row → List ℕ
+encodeTable [] = []
+encodeTable (r ∷ rs) = encodeRow r ++ encodeTable rs
+
+pub record GoodRow (r : Row) : Type 0 where
+  pub good-tid : GoodText Name 1 64 (r .tid)
+  pub good-kid : GoodText Name 1 64 (r .kid)
+  pub key-long : length (r .key) ≡ 32
+
+-- each row good and behind the one before it
+unfoldable pub GoodFrom : List ℕ → List ℕ → List Row → Type 0
+GoodFrom t k [] = Unit {0}
+GoodFrom t k (r ∷ rs) = GoodRow r × (ascends t k (r .tid) (r .kid) ≡ true) × GoodFrom (r .tid) (r .kid) rs
+
+-- no ids come before all ids
+pub record GoodTable (rs : List Row) : Type 0 where
+  pub few : length rs ≤ 64
+  pub rows : GoodFrom [] [] rs
