@@ -1,13 +1,159 @@
 // Key tables and requests as the host tests read them. Nothing of the product stands on it.
+use requests::Audience;
+use requests::Digest;
+use requests::Peer;
+use requests::Rate;
+use requests::RequestParts;
 ghost use mathlib.Core.Path.{_≡_};
 ghost use Rattle.basis.specs.Basis.{Written};
 ghost use Rattle.tables.specs.Reading.{tableOk, lookupOf};
-ghost use Rattle.probe_records.specs.RecordsProbes.{bitOf};
+ghost use Rattle.requests.specs.Reading.{requestOf};
+ghost use Rattle.probe_records.specs.RecordsProbes.{bitOf, peerProbe, digestProbe, rateProbe, audienceProbe, requestProbe};
+
+// An answer as numbers: a host cannot take an enum apart by Rattle's layout.
+#[repr(C)]
+pub struct Listed {
+    pub kind: u32,
+    pub numbers: [u64; 20],
+}
+
+// Whether a part is there, and its numbers.
+pub struct Told {
+    pub there: u64,
+    pub a: u64,
+    pub b: u64,
+}
 
 fn bit_of(b: bool) -> u32
     ensures { λ r. ⌜ r ≡ bitOf b ⌝ }
 {
     if b { 1 } else { 0 }
+}
+
+fn peer_probe(p: Peer) -> Told
+    ensures { λ r. ⌜ r ≡ peerProbe p ⌝ }
+{
+    match p {
+        Peer::Absent => Told {
+            there: 0,
+            a: 0,
+            b: 0,
+        },
+        Peer::At { from } => Told {
+            there: 1,
+            a: from as u64,
+            b: 0,
+        },
+    }
+}
+
+fn digest_probe(p: Digest) -> Told
+    ensures { λ r. ⌜ r ≡ digestProbe p ⌝ }
+{
+    match p {
+        Digest::Absent => Told {
+            there: 0,
+            a: 0,
+            b: 0,
+        },
+        Digest::At { from } => Told {
+            there: 1,
+            a: from as u64,
+            b: 0,
+        },
+    }
+}
+
+fn rate_probe(p: Rate) -> Told
+    ensures { λ r. ⌜ r ≡ rateProbe p ⌝ }
+{
+    match p {
+        Rate::Absent => Told {
+            there: 0,
+            a: 0,
+            b: 0,
+        },
+        Rate::Of { per_s, burst } => Told {
+            there: 1,
+            a: per_s,
+            b: burst,
+        },
+    }
+}
+
+fn audience_probe(p: Audience) -> Told
+    ensures { λ r. ⌜ r ≡ audienceProbe p ⌝ }
+{
+    match p {
+        Audience::Absent => Told {
+            there: 0,
+            a: 0,
+            b: 0,
+        },
+        Audience::Of { from, to } => Told {
+            there: 1,
+            a: from as u64,
+            b: to as u64,
+        },
+    }
+}
+
+fn request_probe(p: RequestParts) -> Listed
+    ensures { λ r. ⌜ r ≡ requestProbe p ⌝ }
+{
+    match p {
+        RequestParts::Bad => Listed {
+            kind: 2,
+            numbers: [0u64; 20],
+        },
+        RequestParts::Of {
+            now: t,
+            size,
+            skew,
+            amnesia,
+            peer,
+            digest,
+            rate,
+            method,
+            method_end,
+            path,
+            path_end,
+            tenant,
+            tenant_end,
+            audience,
+        } => {
+            let x = peer_probe(peer);
+            let y = digest_probe(digest);
+            let z = rate_probe(rate);
+            let w = audience_probe(audience);
+            let on = bit_of(amnesia) as u64;
+            Listed {
+                kind: 0,
+                numbers: [
+                    t,
+                    size,
+                    skew,
+                    on,
+                    x.there,
+                    x.a,
+                    y.there,
+                    y.a,
+                    z.there,
+                    z.a,
+                    z.b,
+                    method as u64,
+                    method_end as u64,
+                    path as u64,
+                    path_end as u64,
+                    tenant as u64,
+                    tenant_end as u64,
+                    w.there,
+                    w.a,
+                    w.b,
+                ],
+            }
+        }
+    }
 }
 
 #[no_mangle]
@@ -24,4 +170,11 @@ pub extern "C" fn probe_lookup(table: &[u8], tid: &[u8], kid: &[u8], room: &mut 
 {
     let key = tables::lookup(table, tid, kid);
     basis::put(key, room)
+}
+
+#[no_mangle]
+pub extern "C" fn probe_read_request(s: &[u8]) -> Listed
+    ensures { λ r. ⌜ r ≡ requestProbe (requestOf (now (s .entry))) ⌝ }
+{
+    request_probe(requests::read_request(s))
 }

@@ -1,0 +1,11 @@
+pub mod Holds
+pub mod Flags
+pub mod FixedLaws
+pub mod ExtrasWritten
+pub mod StringsWritten
+pub mod RequestWritten
+pub mod ExtrasRead
+pub mod StringsRead
+pub mod RequestRead
+pub mod OneRequest
+pub mod OneAnswer
