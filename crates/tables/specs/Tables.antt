@@ -33,7 +33,7 @@ unfoldable pub GoodFrom : List ℕ → List ℕ → List Row → Type 0
 GoodFrom t k [] = Unit {0}
 GoodFrom t k (r ∷ rs) = GoodRow r × (ascends t k (r .tid) (r .kid) ≡ true) × GoodFrom (r .tid) (r .kid) rs
 
--- no ids come before all ids
+-- before the first row stand empty ids, which come before all others
 pub record GoodTable (rs : List Row) : Type 0 where
   pub few : length rs ≤ 64
   pub rows : GoodFrom [] [] rs

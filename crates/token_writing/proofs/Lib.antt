@@ -1,4 +1,3 @@
-pub mod Front
-pub mod Back
+pub mod Pieces
 pub mod Whole
 pub mod OneAnswer
