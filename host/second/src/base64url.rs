@@ -2,26 +2,59 @@
 
 const ALPHABET: &[u8; 64] = b"ABCDEFGHIJKLMNOPQRSTUVWXYZabcdefghijklmnopqrstuvwxyz0123456789-_";
 
+/// What stands for no character; the numbers of the characters have six bits.
+const NONE: u8 = 0xff;
+
+/// The number of each character, laid out once, since every character of a text asks for its own.
+const NUMBERS: [u8; 256] = {
+    let mut numbers = [NONE; 256];
+    let mut number = 0;
+    while number < ALPHABET.len() {
+        numbers[ALPHABET[number] as usize] = number as u8;
+        number += 1;
+    }
+    numbers
+};
+
 /// The bytes of a text, or the place of its first fault. A length that no byte string has is a fault
 /// at the end, behind every character; unused bits that are not zero are one of the last character.
 pub fn decode(text: &[u8]) -> Result<Vec<u8>, usize> {
     let mut bytes = Vec::with_capacity(text.len() / 4 * 3 + 2);
-    let (mut held, mut bits) = (0u32, 0);
-    for (place, &character) in text.iter().enumerate() {
-        held = held << 6 | six_bits(character).ok_or(place)?;
-        bits += 6;
-        if bits >= 8 {
-            bits -= 8;
-            bytes.push((held >> bits) as u8);
-            held &= (1 << bits) - 1;
-        }
+    let fours = text.chunks_exact(4);
+    let rest = fours.remainder();
+    for (four, characters) in fours.enumerate() {
+        let held = joined(characters).map_err(|place| 4 * four + place)?;
+        bytes.extend_from_slice(&held.to_be_bytes()[1..]);
     }
-    match (bits, held) {
-        // A whole character is left over: it began a byte and nothing finished it.
-        (6, _) => Err(text.len()),
-        (_, 0) => Ok(bytes),
-        _ => Err(text.len() - 1),
+    let held = joined(rest).map_err(|place| text.len() - rest.len() + place)?;
+    let (whole, unused) = match rest.len() {
+        0 => return Ok(bytes),
+        // It began a byte and nothing finished it.
+        1 => return Err(text.len()),
+        2 => (1, 4),
+        _ => (2, 2),
+    };
+    if held & ((1 << unused) - 1) != 0 {
+        return Err(text.len() - 1);
     }
+    bytes.extend_from_slice(&(held >> unused).to_be_bytes()[4 - whole..]);
+    Ok(bytes)
+}
+
+/// The numbers of up to four characters, six bits each, or the place of the first that has none.
+fn joined(characters: &[u8]) -> Result<u32, usize> {
+    let mut held = 0;
+    let mut met = 0;
+    for &character in characters {
+        let number = NUMBERS[usize::from(character)];
+        held = held << 6 | u32::from(number & 63);
+        met |= number;
+    }
+    if met == NONE {
+        let none = |&character: &u8| NUMBERS[usize::from(character)] == NONE;
+        return Err(characters.iter().position(none).unwrap_or(0));
+    }
+    Ok(held)
 }
 
 /// The text of some bytes.
@@ -41,18 +74,6 @@ pub fn encode(bytes: &[u8]) -> Vec<u8> {
         text.push(ALPHABET[(held << (6 - bits)) as usize]);
     }
     text
-}
-
-fn six_bits(character: u8) -> Option<u32> {
-    let number = match character {
-        b'A'..=b'Z' => character - b'A',
-        b'a'..=b'z' => character - b'a' + 26,
-        b'0'..=b'9' => character - b'0' + 52,
-        b'-' => 62,
-        b'_' => 63,
-        _ => return None,
-    };
-    Some(u32::from(number))
 }
 
 #[cfg(test)]
@@ -93,10 +114,17 @@ mod tests {
     }
 
     #[test]
-    fn the_alphabet_is_one_list_in_both_directions() {
+    fn the_alphabet_is_that_of_rfc_4648() {
         for character in 0..=255u8 {
-            let at = ALPHABET.iter().position(|&letter| letter == character);
-            assert_eq!(six_bits(character), at.map(|at| at as u32), "{character:02x}");
+            let number = match character {
+                b'A'..=b'Z' => character - b'A',
+                b'a'..=b'z' => character - b'a' + 26,
+                b'0'..=b'9' => character - b'0' + 52,
+                b'-' => 62,
+                b'_' => 63,
+                _ => NONE,
+            };
+            assert_eq!(NUMBERS[usize::from(character)], number, "{character:02x}");
         }
     }
 }

@@ -12,20 +12,24 @@ pub struct Prefix {
 pub fn read(text: &[u8]) -> Option<Prefix> {
     let (address, size) = std::str::from_utf8(text).ok()?.split_once('/')?;
     let size = decimal(size, 32)?;
-    let bytes: Option<Vec<u8>> = address
-        .split('.')
-        .map(|part| decimal(part, 255).map(|number| number as u8))
-        .collect();
-    let address = u32::from_be_bytes(bytes?.try_into().ok()?);
+    let mut parts = address.split('.');
+    let mut number = 0;
+    for _ in 0..4 {
+        number = number << 8 | decimal(parts.next()?, 255)?;
+    }
+    if parts.next().is_some() {
+        return None;
+    }
     // All 32 bits pushed out is more than a shift can do, and leaves none.
-    let past = address.checked_shl(size).unwrap_or(0);
-    (past == 0).then_some(Prefix { address, size })
+    let past = number.checked_shl(size).unwrap_or(0);
+    (past == 0).then_some(Prefix { address: number, size })
 }
 
 /// A number up to `most`. The standard reader takes "007" and "+7" too; only 7's own text is "7".
 fn decimal(text: &str, most: u32) -> Option<u32> {
     let number: u32 = text.parse().ok()?;
-    (number <= most && number.to_string() == text).then_some(number)
+    let own = text == "0" || matches!(text.as_bytes()[0], b'1'..=b'9');
+    (own && number <= most).then_some(number)
 }
 
 /// Whether the first `n` bits of both are the same sequence; a string of fewer bits gives all it has.

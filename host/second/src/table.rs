@@ -26,7 +26,7 @@ impl<'a> Row<'a> {
 
 /// The rows of a good table; nothing where the table is bad.
 pub fn read(s: &[u8]) -> Option<Vec<Row<'_>>> {
-    let mut rows = Vec::new();
+    let mut rows = Vec::with_capacity(ROWS);
     let mut rest = s;
     while !rest.is_empty() {
         let (record, behind) = records::first(rest)?;
@@ -52,8 +52,12 @@ fn row<'a>(record: &Record<'a>) -> Option<Row<'a>> {
 
 /// The key under both ids; nothing where the table is bad or has no such row.
 pub fn lookup<'a>(table: &'a [u8], tid: &[u8], kid: &[u8]) -> Option<&'a [u8]> {
-    let rows = read(table)?;
-    rows.into_iter().find(|row| row.ids() == (tid, kid)).map(|row| row.key)
+    find(&read(table)?, tid, kid)
+}
+
+/// The key under both ids among the rows of a good table.
+pub fn find<'a>(rows: &[Row<'a>], tid: &[u8], kid: &[u8]) -> Option<&'a [u8]> {
+    rows.iter().find(|row| row.ids() == (tid, kid)).map(|row| row.key)
 }
 
 /// The rows as they are given, in order or not.

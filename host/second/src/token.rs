@@ -1,10 +1,10 @@
 //! The whole token: read as document 01 orders it, and written from its parts. A caveat or the scope
 //! is read where it lies, so every place counts from the token's first byte.
 
-use crate::caveat::{self, name};
+use crate::caveat::{self, name, Caveat};
 use crate::cbor::{malformed, unknown, written_head, Defect, ARRAY, BYTES, MAP, TEXT, UNSIGNED};
 use crate::cursor::{required, without_range, Cursor, Key, List, Map, Span};
-use crate::scope;
+use crate::scope::{self, Scope};
 
 const KEYS: [Key; 6] =
     [required("c"), required("r"), required("s"), required("v"), required("kid"), required("tid")];
@@ -22,11 +22,31 @@ pub struct Token {
     pub tid: Span,
 }
 
+/// A token together with what its scope and its caveats say.
+#[derive(Clone, Debug, PartialEq, Eq)]
+pub struct Whole {
+    pub token: Token,
+    pub scope: Scope,
+    pub caveats: Vec<Caveat>,
+}
+
 pub fn read(s: &[u8]) -> Result<Token, Defect> {
+    read_each(s, |_| ()).map(|(token, _)| token)
+}
+
+/// The one reading, with all kept that it finds.
+pub fn read_whole(s: &[u8]) -> Result<Whole, Defect> {
+    let mut caveats = Vec::with_capacity(CAVEATS as usize);
+    let (token, scope) = read_each(s, |caveat| caveats.push(caveat))?;
+    Ok(Whole { token, scope, caveats })
+}
+
+/// Hands each caveat over as it is read.
+fn read_each(s: &[u8], mut each: impl FnMut(Caveat)) -> Result<(Token, Scope), Defect> {
     let mut cursor = Cursor { s, at: 0 };
     let mut map = Map::open(&mut cursor, &KEYS)?;
-    let caveats = map.must("c", |cursor| cursor.list(CAVEATS, |cursor| caveat::read_on(cursor).map(drop)))?;
-    let scope = map.must("r", |cursor| Ok((cursor.at, scope::read_on(cursor)?.next)))?;
+    let caveats = map.must("c", |cursor| cursor.list(CAVEATS, |cursor| caveat::read_on(cursor).map(&mut each)))?;
+    let (from, read) = map.must("r", |cursor| Ok((cursor.at, scope::read_on(cursor)?)))?;
     let tag = map.must("s", |cursor| without_range(cursor.run(BYTES, TAG, TAG)))?;
     map.must("v", edition)?;
     let kid = map.must("kid", name)?;
@@ -34,7 +54,7 @@ pub fn read(s: &[u8]) -> Result<Token, Defect> {
     if cursor.at < s.len() {
         return Err(malformed(cursor.at));
     }
-    Ok(Token { caveats, scope, tag, kid, tid })
+    Ok((Token { caveats, scope: (from, read.next), tag, kid, tid }, read))
 }
 
 fn edition(cursor: &mut Cursor) -> Result<(), Defect> {
@@ -82,6 +102,7 @@ fn written_string(major: u8, content: &[u8]) -> Vec<u8> {
 #[cfg(test)]
 mod tests {
     use super::*;
+    use crate::caveat::Demand;
     use crate::cbor::out_of_bounds;
 
     const SCOPE: &[u8] = b"\xa1\x67methods\x80";
@@ -122,6 +143,18 @@ mod tests {
         assert_eq!(read(&write(&fields(2, &spoiled))), Err(malformed(23)));
         assert_eq!(read(&write(&fields(2, EXP))), Err(malformed(14)));
         assert_eq!(read(&write(&fields(0, EXP))), Err(malformed(4)));
+    }
+
+    #[test]
+    fn what_the_parts_say_is_kept() {
+        let caveats = [EXP, b"\xa2\x61t\x67amnesia\x61v\xf5"].concat();
+        let bytes = write(&fields(2, &caveats));
+        let whole = read_whole(&bytes).unwrap();
+        assert_eq!(Ok(whole.token), read(&bytes));
+        let wanted = [Caveat { demand: Demand::Exp(0), next: 14 }, Caveat { demand: Demand::Amnesia(true), next: 28 }];
+        assert_eq!(whole.caveats, wanted);
+        assert_eq!(Ok(whole.scope), scope::read(&bytes, whole.token.scope.0));
+        assert_eq!(read_whole(&bytes[..bytes.len() - 1]).err(), read(&bytes[..bytes.len() - 1]).err());
     }
 
     #[test]
