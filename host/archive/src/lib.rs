@@ -57,6 +57,14 @@ pub struct Fields<'a> {
 }
 
 extern "C" {
+    fn bhinorpa_verify(
+        table: *const u8,
+        table_len: usize,
+        request: *const u8,
+        request_len: usize,
+        token: *const u8,
+        token_len: usize,
+    ) -> u32;
     fn bhinorpa_keyed_hash(key: *const u8, key_len: usize, message: *const u8, message_len: usize) -> Hashed;
     fn probe_keyed_hash_joined(
         key: *const u8,
@@ -106,6 +114,21 @@ extern "C" {
         room_len: usize,
     ) -> usize;
     fn probe_read_request(s: *const u8, s_len: usize) -> RequestParts;
+}
+
+/// Document 01's number for a token's text, 0 to 21, against a key table and a request.
+pub fn verify(table: &[u8], request: &[u8], token: &[u8]) -> u32 {
+    // SAFETY: all ranges are those of live slices, which the callee only reads.
+    unsafe {
+        bhinorpa_verify(
+            table.as_ptr(),
+            table.len(),
+            request.as_ptr(),
+            request.len(),
+            token.as_ptr(),
+            token.len(),
+        )
+    }
 }
 
 pub fn keyed_hash(key: &[u8], message: &[u8]) -> Hashed {
