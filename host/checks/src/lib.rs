@@ -1,9 +1,12 @@
 //! What the tests share: numbers from a seed, the same on every machine and in every run;
-//! inputs made from them; what is done to these; and the proved readers beside the second program's.
+//! inputs made from them; what is done to these; and the proved functions beside the second program's.
 
 pub mod beside;
+pub mod cases;
 pub mod damage;
 pub mod edits;
+pub mod faults;
+pub mod fitting;
 pub mod inputs;
 mod parts;
 pub mod requests;
@@ -11,6 +14,7 @@ pub mod strings;
 pub mod tables;
 pub mod tree;
 pub mod trees;
+pub mod verdicts;
 
 /// SplitMix64.
 pub struct Seeded(pub u64);
