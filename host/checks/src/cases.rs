@@ -135,7 +135,7 @@ pub fn of_length(length: usize, seeded: &mut Seeded) -> Case {
 }
 
 /// Caveats on the path until the token has this many bytes; two make the rest exact.
-fn fill(case: &mut Case, length: usize) {
+pub fn fill(case: &mut Case, length: usize) {
     let path = case.request.path.clone();
     let caveat = |length: usize| caveat_of("path_prefix", Node::text(&path[..length]));
     let size = |length: usize| caveat(length).laid().len();

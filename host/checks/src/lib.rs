@@ -10,6 +10,7 @@ pub mod fitting;
 pub mod inputs;
 mod parts;
 pub mod requests;
+pub mod samples;
 pub mod strings;
 pub mod tables;
 pub mod tree;

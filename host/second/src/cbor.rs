@@ -52,11 +52,11 @@ impl Class {
     pub(crate) fn admits(self, content: &[u8]) -> bool {
         let every = |good: fn(&u8) -> bool| content.iter().all(good);
         match self {
-            Class::Name => every(|c| c.is_ascii_alphanumeric() || b"-._".contains(c)),
+            Class::Name => every(|c| c.is_ascii_alphanumeric() || matches!(c, b'-' | b'.' | b'_')),
             Class::Printable => every(u8::is_ascii_graphic),
             Class::Path => content.first() == Some(&b'/') && every(u8::is_ascii_graphic),
             Class::Upper => every(u8::is_ascii_uppercase),
-            Class::Hex => every(|c| b"0123456789abcdef".contains(c)),
+            Class::Hex => every(|c| matches!(c, b'0'..=b'9' | b'a'..=b'f')),
         }
     }
 }
