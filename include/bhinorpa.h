@@ -6,8 +6,8 @@
  *   - no other thread writes to it meanwhile.
  * Nothing else is asked: any bytes of any length may come in, and every call returns.
  *
- * Link target/staticlib/libkeyed_hash.a (tools/archives makes it) and the C library, of which it
- * needs memcpy and memset alone.
+ * Link target/staticlib/libbhinorpa.a for bhinorpa_verify and target/staticlib/libkeyed_hash.a for
+ * bhinorpa_keyed_hash (tools/archives makes both), and the C library behind them.
  */
 #ifndef BHINORPA_H
 #define BHINORPA_H
@@ -19,11 +19,54 @@
 extern "C" {
 #endif
 
-/* The answers that the functions below give, out of the one numbered list. */
+/* The answers that the functions below give, out of the one numbered list. Each comment begins with the
+ * name that stands for the number in logs. */
 enum bhinorpa_answer {
-    BHINORPA_DONE = 0,     /* allow, or done */
-    BHINORPA_HASH_BAD = 37 /* hash.bad: the message is over 8,192 bytes, or the key is not 32 bytes */
+    BHINORPA_ALLOW = 0,                  /* allow: the token is good and everything in it holds */
+    BHINORPA_DONE = 0,                   /* done, of a function that does not judge */
+    BHINORPA_TABLE_BAD = 1,              /* table.bad: the key table is malformed, in any of its rows */
+    BHINORPA_CTX_BAD = 2,                /* ctx.bad: the request is malformed */
+    BHINORPA_PARSE_B64 = 3,              /* parse.b64: the text is not Base64URL without padding */
+    BHINORPA_PARSE_CBOR = 4,             /* parse.cbor: the token is malformed */
+    BHINORPA_PARSE_BOUNDS = 5,           /* parse.bounds: the text or something in the token is too long or large */
+    BHINORPA_SCHEMA_UNKNOWN_FIELD = 6,   /* schema.unknown_field: an unknown key, kind of caveat or version */
+    BHINORPA_KID_UNKNOWN = 7,            /* kid.unknown: the table has no key under the token's tid and kid */
+    BHINORPA_MAC_MISMATCH = 8,           /* mac.mismatch: the tag is not that of this token under that key */
+    BHINORPA_TENANT_MISMATCH = 9,        /* tenant.mismatch: the request is another tenant's */
+    BHINORPA_CAVEAT_METHOD = 10,         /* caveat.method: scope or caveat does not list the method */
+    BHINORPA_CAVEAT_PATH = 11,           /* caveat.path: the path does not start as scope or caveat asks */
+    BHINORPA_CAVEAT_BYTES = 12,          /* caveat.bytes: the body is larger than scope or caveat allows */
+    BHINORPA_CAVEAT_EXP = 13,            /* caveat.exp: expired, the skew included */
+    BHINORPA_CAVEAT_NBF = 14,            /* caveat.nbf: not valid yet, the skew included */
+    BHINORPA_CAVEAT_AUD = 15,            /* caveat.aud: no audience, or another one */
+    BHINORPA_CAVEAT_IP = 16,             /* caveat.ip: no peer address, or one outside the network */
+    BHINORPA_CAVEAT_RATE = 17,           /* caveat.rate: no rate stated, or one above the caveat's */
+    BHINORPA_CAVEAT_TENANT = 18,         /* caveat.tenant: not the token's own tenant */
+    BHINORPA_CAVEAT_AMNESIA = 19,        /* caveat.amnesia: the host is not in amnesia mode */
+    BHINORPA_CAVEAT_POLICY_DIGEST = 20,  /* caveat.policy_digest: no policy digest, or another one */
+    BHINORPA_CAVEAT_CUSTOM_UNKNOWN = 21, /* caveat.custom.unknown: a custom caveat, which never holds */
+    BHINORPA_HASH_BAD = 37               /* hash.bad: the message is over 8,192 bytes, or the key is not 32 bytes */
 };
+
+/* Whether a token allows a request: BHINORPA_ALLOW, or the first reason that it does not, BHINORPA_TABLE_BAD
+ * to BHINORPA_CAVEAT_CUSTOM_UNKNOWN. Grant on 0 and on nothing else.
+ *
+ *   table    the key table: its records one behind the other, as they are stored. It may be empty.
+ *   request  the request body, made by the firmware for the call at hand: time, body size, skew, flags, then
+ *            what is flagged, method, path, tenant and audience. Numbers are little-endian; the peer's four
+ *            address bytes stand as they are written.
+ *   token    the token's text as it came in, without an ending zero, newline or padding. Up to 5,462
+ *            characters are read; a longer text is BHINORPA_PARSE_BOUNDS, whatever it holds.
+ *
+ * Reasons are looked for in the order of their numbers up to 12, but for a text that is too long, which
+ * comes before BHINORPA_PARSE_B64, and for the first defect of the token, which is 4, 5 or 6 by where it
+ * stands; then come the caveats in the token's order, each with its own number.
+ *
+ * The call keeps nothing from one time to the next and only reads the three ranges; its work room, 4,096
+ * bytes for the decoded token and some more, is on the stack. It looks at no clock: the time is what the
+ * request says, and a rate is compared with the one that the request states, not counted. */
+uint32_t bhinorpa_verify(const uint8_t *table, size_t table_length, const uint8_t *request,
+                         size_t request_length, const uint8_t *token, size_t token_length);
 
 struct bhinorpa_hashed {
     uint32_t answer;   /* BHINORPA_DONE or BHINORPA_HASH_BAD */

@@ -1,5 +1,6 @@
-//! Writes the files that tools/check-c tries the C example on: `samples FOLDER`. The names before a dot
-//! are those of a triple that is allowed; each other file makes it fail in the place of its namesake.
+//! Writes the files that tools/check-c tries the C example on: `samples FOLDER`. table, request and token
+//! are a triple that is allowed, and so are table, request.longest and token.longest; each other file is
+//! wrong in the way that its name says.
 
 use std::path::Path;
 use std::{fs, io};
@@ -11,6 +12,7 @@ fn main() -> io::Result<()> {
     let folder = Path::new(&folder);
     let mut case = samples::of_caveats(1);
     let good = case.laid();
+    let longest = samples::longest().laid();
     case.request.now = samples::LAST + 1;
     let mut forged = case.tag();
     forged[31] ^= 1;
@@ -21,11 +23,12 @@ fn main() -> io::Result<()> {
         ("request", good.request.clone()),
         ("request.cut", good.request[..good.request.len() - 1].to_vec()),
         ("request.late", case.request.laid()),
+        ("request.longest", longest.request),
         ("token", good.text),
         ("token.empty", vec![]),
         ("token.forged", case.with_token(&case.tree(&forged).laid()).text),
         ("token.long", vec![b'='; 6000]),
-        ("token.longest", samples::longest().laid().text),
+        ("token.longest", longest.text),
     ];
     files.iter().try_for_each(|(name, bytes)| fs::write(folder.join(name), bytes))
 }
