@@ -7,7 +7,8 @@
  * Nothing else is asked: any bytes of any length may come in, and every call returns.
  *
  * Link target/staticlib/libbhinorpa.a for bhinorpa_verify and target/staticlib/libkeyed_hash.a for
- * bhinorpa_keyed_hash (tools/archives makes both), and the C library behind them.
+ * bhinorpa_keyed_hash (tools/archives makes both), and the C library, of which the hash needs memcpy and
+ * memset alone.
  */
 #ifndef BHINORPA_H
 #define BHINORPA_H

@@ -66,6 +66,11 @@ impl Case {
         ])
     }
 
+    /// How many bytes the decoded token has, whatever its tag is.
+    fn length(&self) -> usize {
+        self.tree(&[0; 32]).laid().len()
+    }
+
     /// The decoded token with its right tag.
     pub fn token(&self) -> Vec<u8> {
         self.tree(&self.tag()).laid()
@@ -117,8 +122,8 @@ pub fn shorten(caveats: &mut [Node]) {
 }
 
 /// A case with the narrowest scope and the narrowest caveat of each kind that can hold, and more behind
-/// them so that the token has exactly this many bytes. The request has every part but amnesia, without
-/// which a changed caveat can ask for it.
+/// them so that the token has exactly this many bytes. The request has every part but amnesia, so that one
+/// bit makes a caveat that fails out of the one that asks for none.
 pub fn of_length(length: usize, seeded: &mut Seeded) -> Case {
     let request = Request {
         now: 1 << 40,
@@ -134,24 +139,23 @@ pub fn of_length(length: usize, seeded: &mut Seeded) -> Case {
     case
 }
 
-/// Caveats on the path until the token has this many bytes; two make the rest exact.
+/// Adds caveats on the path until the token has exactly this many bytes; the last two make it so.
 pub fn fill(case: &mut Case, length: usize) {
     let path = case.request.path.clone();
     let caveat = |length: usize| caveat_of("path_prefix", Node::text(&path[..length]));
-    let size = |length: usize| caveat(length).laid().len();
-    while case.token().len() + 500 < length {
+    while case.length() + 500 < length {
         case.caveats.push(caveat(200));
     }
+    let sizes: Vec<usize> = (1..=256).map(|length| caveat(length).laid().len()).collect();
+    // What two caveats of the shortest prefix leave, and what they take themselves.
     case.caveats.extend([caveat(1), caveat(1)]);
-    let left = length - case.token().len() + 2 * size(1);
+    let left = length - case.length() + 2 * sizes[0];
     case.caveats.truncate(case.caveats.len() - 2);
-    let pairs = (1..=256).flat_map(|first| (1..=256).map(move |second| (first, second)));
-    let (first, second) = pairs
-        .into_iter()
-        .find(|&(first, second)| size(first) + size(second) == left)
-        .expect("two prefixes of the length that is left");
-    case.caveats.extend([caveat(first), caveat(second)]);
-    assert_eq!(case.token().len(), length);
+    let second = |first: usize| sizes.iter().position(|second| sizes[first] + second == left);
+    let (first, second) =
+        (0..sizes.len()).find_map(|first| Some((first, second(first)?))).expect("two prefixes of that size");
+    case.caveats.extend([caveat(first + 1), caveat(second + 1)]);
+    assert_eq!(case.length(), length);
 }
 
 /// A decoded token with its tag made right under a key, if it still reads as a token.

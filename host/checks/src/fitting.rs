@@ -41,7 +41,8 @@ fn above(bound: u64, seeded: &mut Seeded) -> Option<u64> {
     Some(at_least(bound.checked_add(1)?, seeded))
 }
 
-/// Another text near this one, of at most `most` bytes: with one byte more, one less, or another one.
+/// Another text near this one, of at most `most` bytes: with one byte more, one less or another one, or a
+/// letter in the other case, unless only upper case may come.
 pub fn other(text: &[u8], fillers: [u8; 2], most: usize, seeded: &mut Seeded) -> Vec<u8> {
     let mut others = Vec::new();
     if text.len() < most {
@@ -53,6 +54,12 @@ pub fn other(text: &[u8], fillers: [u8; 2], most: usize, seeded: &mut Seeded) ->
     for at in [0, text.len() / 2, text.len() - 1] {
         let mut changed = text.to_vec();
         changed[at] = if text[at] == fillers[0] { fillers[1] } else { fillers[0] };
+        others.push(changed);
+    }
+    let letter = text.iter().position(u8::is_ascii_alphabetic);
+    if let Some(at) = letter.filter(|_| !fillers[0].is_ascii_uppercase()) {
+        let mut changed = text.to_vec();
+        changed[at] ^= 0x20;
         others.push(changed);
     }
     one(others, seeded)
@@ -86,8 +93,8 @@ fn prefix_of(request: &Request, seeded: &mut Seeded) -> Node {
     Node::text(&request.path[..length])
 }
 
-/// A prefix that the path does not start with: by its last byte, by one in the middle, or by one that
-/// the path does not have any more.
+/// A prefix that the path does not start with: by its last byte or one in the middle, of which a letter
+/// only changes its case, or by one that the path does not have any more.
 fn no_prefix_of(request: &Request, seeded: &mut Seeded) -> Node {
     let path = &request.path;
     let longest = path.len().min(PREFIX);
@@ -100,7 +107,10 @@ fn no_prefix_of(request: &Request, seeded: &mut Seeded) -> Node {
         let length = 2 + seeded.below(longest - 1);
         for at in [length - 1, 1 + seeded.below(length - 1)] {
             let mut prefix = path[..length].to_vec();
-            prefix[at] = if prefix[at] == b'x' { b'y' } else { b'x' };
+            prefix[at] = match prefix[at] {
+                letter if letter.is_ascii_alphabetic() => letter ^ 0x20,
+                _ => b'x',
+            };
             prefixes.push(prefix);
         }
     }
