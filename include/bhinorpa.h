@@ -60,8 +60,8 @@ enum bhinorpa_answer {
  *            characters are read; a longer text is BHINORPA_PARSE_BOUNDS, whatever it holds.
  *
  * Reasons are looked for in the order of their numbers up to 12, but for a text that is too long, which
- * comes before BHINORPA_PARSE_B64, and for the first defect of the token, which is 4, 5 or 6 by where it
- * stands; then come the caveats in the token's order, each with its own number.
+ * comes before BHINORPA_PARSE_B64, and for the first defect of the token, which is 4, 5 or 6 by what it
+ * is; then come the caveats in the token's order, each with its own number.
  *
  * The call keeps nothing from one time to the next and only reads the three ranges; its work room, 4,096
  * bytes for the decoded token and some more, is on the stack. It looks at no clock: the time is what the
