@@ -1,8 +1,8 @@
 -- One text for one list of bytes: decoding what encoding wrote gives the bytes, and whatever decodes is what encoding its bytes
 -- writes.
-use mathlib.Core.Path.{_≡_, refl, ap}
+use mathlib.Core.Path.{_≡_, refl, sym, ap, _∙_}
 use mathlib.Core.List.{List, [], _∷_}
-use Prim.Native.Nat.{ℕ, suc, _+_, _*_, _/_, _%_, _<_}
+use Prim.Native.Nat.{ℕ, zero, suc, _+_, _*_, _/_, _%_, _<_}
 use native.Mathlib.Omega.{arith}
 use borrow.Author.Tests.{lt-ltb, le-ltb, ne-eqb}
 use lib.ListN.{length}
@@ -11,7 +11,7 @@ use Rattle.base64url.specs.Base64url.{letterOf, base64url}
 use Rattle.base64url.specs.Reading.{digitOf, badAt, unusedOf, byteLength, judgedOf, bytesOf}
 use Rattle.base64url.specs.declared.Judged.the-variants.{Whole}
 use Rattle.base64url.proofs.Letters.{digit-letter, letter-digit}
-use Rattle.base64url.proofs.Filling.{letter-at, letters-drop}
+use Rattle.base64url.proofs.Filling.{letter-at, letters-drop, bytes-length}
 use Rattle.base64url.proofs.Decoding.{sound}
 
 -- the digits of a text that was written
@@ -173,3 +173,34 @@ text-bytes (a ∷ b ∷ c ∷ d ∷ t) e l u =
 -- whatever decodes is the text of its bytes
 pub whole-text : (text : List ℕ) {n : ℕ} → judgedOf text ≡ Whole n → base64url (bytesOf text) ≡ text
 whole-text text e = let s = sound text e in text-bytes text (s .letters) (s .left) (s .unused)
+
+-- and what it stands for are bytes
+decoded-bytes : (text : List ℕ) → badAt text ≡ length text → IsBytes (bytesOf text)
+unfolding bytesOf
+decoded-bytes [] e i = omega arith
+decoded-bytes (a ∷ []) e i = omega arith
+decoded-bytes (a ∷ b ∷ []) e zero =
+    let la = letter-at (a ∷ b ∷ []) e 0 (omega arith) in
+    let lb = letter-at (a ∷ b ∷ []) e 1 (omega arith) in
+    omega arith
+decoded-bytes (a ∷ b ∷ []) e (suc i) = omega arith
+decoded-bytes (a ∷ b ∷ c ∷ []) e zero =
+    let la = letter-at (a ∷ b ∷ c ∷ []) e 0 (omega arith) in
+    let lb = letter-at (a ∷ b ∷ c ∷ []) e 1 (omega arith) in
+    omega arith
+decoded-bytes (a ∷ b ∷ c ∷ []) e (suc zero) = let lc = letter-at (a ∷ b ∷ c ∷ []) e 2 (omega arith) in omega arith
+decoded-bytes (a ∷ b ∷ c ∷ []) e (suc (suc i)) = omega arith
+decoded-bytes (a ∷ b ∷ c ∷ d ∷ t) e zero =
+    let la = letter-at (a ∷ b ∷ c ∷ d ∷ t) e 0 (omega arith) in
+    let lb = letter-at (a ∷ b ∷ c ∷ d ∷ t) e 1 (omega arith) in
+    omega arith
+decoded-bytes (a ∷ b ∷ c ∷ d ∷ t) e (suc zero) = let lc = letter-at (a ∷ b ∷ c ∷ d ∷ t) e 2 (omega arith) in omega arith
+decoded-bytes (a ∷ b ∷ c ∷ d ∷ t) e (suc (suc zero)) = let ld = letter-at (a ∷ b ∷ c ∷ d ∷ t) e 3 (omega arith) in omega arith
+decoded-bytes (a ∷ b ∷ c ∷ d ∷ t) e (suc (suc (suc i))) = decoded-bytes t (letters-drop 4 (a ∷ b ∷ c ∷ d ∷ t) e) i
+
+pub whole-bytes : (text : List ℕ) {n : ℕ} → judgedOf text ≡ Whole n → IsBytes (bytesOf text)
+whole-bytes text e = decoded-bytes text (sound text e .letters)
+
+-- as many as were counted
+pub whole-length : (text : List ℕ) {n : ℕ} → judgedOf text ≡ Whole n → length (bytesOf text) ≡ n
+whole-length text e = bytes-length text ∙ sym (sound text e .count)

@@ -1,11 +1,14 @@
 -- A part that lies at a place of a longer string: what stands behind it, and where it ends.
 use mathlib.Core.Path.{_≡_, refl, sym, ap, _∙_}
-use mathlib.Core.List.{List, _++_}
-use Prim.Native.Nat.{ℕ, _+_, _-_}
+use mathlib.Core.Bool.{Bool, true, false}
+use mathlib.Core.List.{List, [], _++_}
+use borrow.Author.Tests.{leb-true, leb-false, ltb-true, ltb-false}
+use lib.Dec.{leb, ltb}
+use Prim.Native.Nat.{ℕ, _+_, _-_, _≤_, _<_, min}
 use native.Mathlib.Omega.{arith}
 use Rattle.basis.specs.Basis.{between}
-use lib.ListN.{length, take, drop, length-append}
-use lib.Seq.{drop-drop, drop-at, take-at, take-append-seam, drop-append-seam}
+use lib.ListN.{length, take, drop, length-append, length-drop, drop-of-length-le}
+use lib.Seq.{drop-drop, drop-at, take-at, take-append-seam, drop-append-seam, take-all, take-nil}
 
 pub past : (s x t : List ℕ) (at : ℕ) → drop at s ≡ x ++ t → drop (at + length x) s ≡ t
 past s x t at e = sym (drop-drop (length x) at s) ∙ ap (drop (length x)) e ∙ drop-at x t (length x) refl
@@ -32,3 +35,46 @@ pub one-front : (x y t : List ℕ) → x ++ t ≡ y ++ t → x ≡ y
 one-front x y t e =
     let l : length x ≡ length y = omega (arith, sym (length-append x t) ∙ ap length e ∙ length-append y t) in
     sym (take-append-seam x t) ∙ ap (take (length x)) e ∙ ap (λ (k : ℕ). take k (y ++ t)) l ∙ take-append-seam y t
+
+-- a part by places that may lie anywhere
+pub no-part : (s : List ℕ) (from to end : ℕ) → end ≡ min to (length s) → end < from → [] ≡ between s from to
+no-part s from to end e h = by (leb (length s) from) refl
+  where
+    by : (u : Bool) → leb (length s) from ≡ u → [] ≡ between s from to
+    by true p = rw (drop-of-length-le s {i = from} (leb-true (length s) from p)) (sym (take-nil (to - from)))
+    by false p = let z : to - from ≡ 0 = omega (arith, e, leb-false (length s) from p) in rw z
+
+pub some-part : (s : List ℕ) (from to end : ℕ) → end ≡ min to (length s) → from ≤ end → take (end - from) (drop from s) ≡ between s from to
+some-part s from to end e h = by (leb to (length s)) refl
+  where
+    by : (u : Bool) → leb to (length s) ≡ u → take (end - from) (drop from s) ≡ between s from to
+    by true p = let z : end ≡ to = omega (arith, e, leb-true to (length s) p) in ap (λ (n : ℕ). take (n - from) (drop from s)) z
+    by false p =
+        let q = leb-false to (length s) p in
+        take-all (end - from) (drop from s) (simp length-drop (omega (arith, e)))
+        ∙ sym (take-all (to - from) (drop from s) (simp length-drop (omega (arith, e))))
+
+-- from a place on; past the end nothing is left
+pub part-from : (s : List ℕ) (at from : ℕ) → from ≡ min at (length s) → take (length s - from) (drop from s) ≡ drop at s
+part-from s at from e = take-all (length s - from) (drop from s) (simp length-drop (omega arith)) ∙ by (ltb (length s) at) refl
+  where
+    by : (b : Bool) → ltb (length s) at ≡ b → drop from s ≡ drop at s
+    by false p = let x : from ≡ at = omega (arith, e, ltb-false (length s) at p) in ap (λ (i : ℕ). drop i s) x
+    by true p =
+        let h = ltb-true (length s) at p in
+        drop-of-length-le s {i = from} (omega (arith, e)) ∙ sym (drop-of-length-le s {i = at} (omega arith))
+
+-- as many as are asked for, or all
+pub take-least : (t : List ℕ) (n k : ℕ) → k ≡ min n (length t) → take k t ≡ take n t
+take-least t n k e = by (ltb (length t) n) refl
+  where
+    by : (b : Bool) → ltb (length t) n ≡ b → take k t ≡ take n t
+    by false p = let x : k ≡ n = omega (arith, e, ltb-false (length t) n p) in ap (λ (i : ℕ). take i t) x
+    by true p = let h = ltb-true (length t) n p in take-all k t (omega (arith, e)) ∙ sym (take-all n t (omega arith))
+
+pub run-part : (s : List ℕ) (from n start k : ℕ) → start ≡ min from (length s) → k ≡ min n (length (take (length s - start) (drop start s)))
+    → take (k - 0) (take (length s - start) (drop start s)) ≡ between s from (from + n)
+run-part s from n start k e f =
+    let x : from + n - from ≡ n = omega arith in
+    let y : k - 0 ≡ k = omega arith in
+    take-least (take (length s - start) (drop start s)) n (k - 0) (y ∙ f) ∙ ap (take n) (part-from s from start e) ∙ ap (λ (i : ℕ). take i (drop from s)) (sym x)

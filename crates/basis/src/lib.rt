@@ -1,7 +1,7 @@
 // What every crate needs of bytes and lent room, and the words that the definitions share.
 ghost use mathlib.Core.Path.{_≡_};
-ghost use Prim.Native.Nat.{min};
-ghost use Rattle.basis.specs.Basis.{Written};
+ghost use Prim.Native.Nat.{_+_, min};
+ghost use Rattle.basis.specs.Basis.{between, Written};
 ghost use Rattle.basis.specs.Same.{sameOf};
 
 // The smaller of two counts.
@@ -36,4 +36,24 @@ pub fn same(x: &[u8], y: &[u8]) -> bool
         i += 1;
     }
     true
+}
+
+// The bytes from a place to another, as far as there are any: for places that were told by someone else.
+pub fn part<'a>(s: &'a [u8], from: usize, to: usize) -> &'a [u8]
+    ensures { λ r. ⌜ now r ≡ between (now (s .entry)) from to ⌝ }
+{
+    let end = least(to, s.len());
+    if end < from {
+        return &s[0..0];
+    }
+    &s[from..end]
+}
+
+// So many bytes from a place on, as far as there are any.
+pub fn run<'a>(s: &'a [u8], from: usize, n: usize) -> &'a [u8]
+    ensures { λ r. ⌜ now r ≡ between (now (s .entry)) from (from + n) ⌝ }
+{
+    let start = least(from, s.len());
+    let rest = &s[start..];
+    &rest[0..least(n, rest.len())]
 }

@@ -5,7 +5,7 @@ use mathlib.Core.List.{List}
 use Rattle.basis.proofs.OneAnswer.{told}
 use Prim.Native.Nat.{ℕ}
 use Rattle.tables.specs.Order.{beforeOf}
-use Rattle.tables.specs.Reading.{tableOk, lookupOf}
+use Rattle.tables.specs.Reading.{tableOk, findFrom, lookupOf}
 
 pub before-one-answer : (x y : List ℕ) {r s : Bool} → r ≡ beforeOf x y → s ≡ beforeOf x y → r ≡ s
 before-one-answer x y p q = told p q
@@ -16,3 +16,6 @@ table-ok-one-answer table p q = told p q
 -- of the part that is handed back, the bytes
 pub lookup-one-answer : (table tid kid : List ℕ) {r s : List ℕ} → r ≡ lookupOf table tid kid → s ≡ lookupOf table tid kid → r ≡ s
 lookup-one-answer table tid kid p q = told p q
+
+pub find-one-answer : (table tid kid : List ℕ) {r s : List ℕ} → r ≡ findFrom 64 table tid kid 0 → s ≡ findFrom 64 table tid kid 0 → r ≡ s
+find-one-answer table tid kid p q = told p q

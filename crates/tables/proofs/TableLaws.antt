@@ -2,6 +2,7 @@
 use mathlib.Core.Path.{_≡_, refl, sym, ap, _∙_}
 use mathlib.Core.Bool.{Bool, true, false}
 use mathlib.Core.List.{List, [], _∷_, _++_}
+use mathlib.Core.Logic.{_⊎_, inl, inr}
 use Prim.Native.Nat.{ℕ, zero, suc, _+_, _-_, _≤_}
 use native.Mathlib.Omega.{arith}
 use borrow.Author.Tests.{eqb-true, eq-eqb, ne-eqb, le-ltb, lt-ltb}
@@ -11,7 +12,7 @@ use Rattle.basis.specs.Basis.{pick, between, IsBytes}
 use Rattle.basis.proofs.Parts.{on}
 use Rattle.records.specs.Records.{little, recordBytes, runAt, numberAt, recordAt}
 use Rattle.tables.specs.Order.{sameIds}
-use Rattle.tables.specs.Tables.{Row, encodeRow, encodeTable, GoodFrom, GoodTable}
+use Rattle.tables.specs.Tables.{Row, encodeRow, encodeTable, GoodFrom, GoodTable, keyIn}
 use Rattle.tables.specs.Reading.{rowAt, afterRow, orderedThen, rowAfter, okThen, okFrom, tableOk, findThen, findFrom, lookupOf}
 use Rattle.tables.specs.declared.Row.{Row as Parts}
 use Rattle.tables.specs.declared.Row.the-variants.{Of, Bad}
@@ -92,11 +93,6 @@ pub table-read : (s : List ℕ) → IsBytes s → tableOk s ≡ true → IsTable
 unfolding tableOk
 table-read s b e = let r = ok-read s b 64 [] [] 0 e in record { rows = r .rows; good = record { few = r .few; rows = r .good }; whole = r .there }
 
--- the key of the first row with these ids
-unfoldable pub keyIn : List Row → List ℕ → List ℕ → List ℕ
-keyIn [] tid kid = []
-keyIn (r ∷ rs) tid kid = pick (sameIds (r .tid) (r .kid) tid kid) (r .key) (keyIn rs tid kid)
-
 -- no row begins at the end
 no-row : (s : List ℕ) (at : ℕ) → at ≡ length s → rowAt s at ≡ Bad
 unfolding rowAt recordAt numberAt runAt
@@ -113,7 +109,21 @@ find-written (r ∷ rs) (suc n) l t k g s tid kid at i e =
     let m = find-written rs n (omega arith) (r .tid) (r .kid) (g .2) s tid kid (w .next) (w .inside) (w .behind) in
     rw (w .answer, w .tid-held, w .kid-held, w .key-held, m)
 
+-- in a table that was judged before, and by itself
+pub find-finds : (rs : List Row) → GoodTable rs → (tid kid : List ℕ) → findFrom 64 (encodeTable rs) tid kid 0 ≡ keyIn rs tid kid
+find-finds rs g tid kid = find-written rs 64 (g .few) [] [] (g .rows) (encodeTable rs) tid kid 0 (omega arith) refl
+
 -- the lookup finds the row's key, and nothing where there is no such row
 pub lookup-finds : (rs : List Row) → GoodTable rs → (tid kid : List ℕ) → lookupOf (encodeTable rs) tid kid ≡ keyIn rs tid kid
 unfolding lookupOf
-lookup-finds rs g tid kid = rw (table-written rs g) (find-written rs 64 (g .few) [] [] (g .rows) (encodeTable rs) tid kid 0 (omega arith) refl)
+lookup-finds rs g tid kid = rw (table-written rs g) (find-finds rs g tid kid)
+
+-- a key is 32 bytes or none
+pub key-long : (rs : List Row) (t k : List ℕ) → GoodFrom t k rs → (tid kid : List ℕ) → (length (keyIn rs tid kid) ≡ 32) ⊎ (keyIn rs tid kid ≡ [])
+unfolding GoodFrom keyIn
+key-long [] t k g tid kid = inr refl
+key-long (r ∷ rs) t k g tid kid = by (sameIds (r .tid) (r .kid) tid kid) (key-long rs (r .tid) (r .kid) (g .2) tid kid)
+  where
+    by : (b : Bool) → (length (keyIn rs tid kid) ≡ 32) ⊎ (keyIn rs tid kid ≡ []) → (length (pick b (r .key) (keyIn rs tid kid)) ≡ 32) ⊎ (pick b (r .key) (keyIn rs tid kid) ≡ [])
+    by true m = inl (g .0 .key-long)
+    by false m = m

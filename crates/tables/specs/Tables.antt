@@ -9,7 +9,8 @@ use lib.ListN.{length}
 use Rattle.cbor.specs.declared.Class.the-variants.{Name}
 use Rattle.keys.specs.Maps.{GoodText}
 use Rattle.records.specs.Records.{counted, recordBytes}
-use Rattle.tables.specs.Order.{ascends}
+use Rattle.basis.specs.Basis.{pick}
+use Rattle.tables.specs.Order.{ascends, sameIds}
 
 pub record Row : Type 0 where
   pub tid : List ℕ
@@ -37,3 +38,8 @@ GoodFrom t k (r ∷ rs) = GoodRow r × (ascends t k (r .tid) (r .kid) ≡ true) 
 pub record GoodTable (rs : List Row) : Type 0 where
   pub few : length rs ≤ 64
   pub rows : GoodFrom [] [] rs
+
+-- the key of the row with these ids; nothing where there is no such row
+unfoldable pub keyIn : List Row → List ℕ → List ℕ → List ℕ
+keyIn [] tid kid = []
+keyIn (r ∷ rs) tid kid = pick (sameIds (r .tid) (r .kid) tid kid) (r .key) (keyIn rs tid kid)

@@ -174,8 +174,8 @@ fn same_ids(t: &[u8], k: &[u8], tid: &[u8], kid: &[u8]) -> bool
     false
 }
 
-// The key of the row with these ids, as it lies in the table.
-fn find<'a>(table: &'a [u8], tid: &[u8], kid: &[u8]) -> &'a [u8]
+// The key of the row with these ids, as it lies in a table that was judged before.
+pub fn find<'a>(table: &'a [u8], tid: &[u8], kid: &[u8]) -> &'a [u8]
     ensures { λ r. ⌜ now r ≡ findFrom 64 (now (table .entry)) (now (tid .entry)) (now (kid .entry)) 0 ⌝ }
 {
     let mut rows: u32 = 64;

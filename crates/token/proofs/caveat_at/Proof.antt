@@ -1,7 +1,7 @@
 use mathlib.Core.Path.{ap, _∙_}
 use borrow.Author.Needs.{needs}
 use Rattle.caveat.specs.Reading.{caveatOf}
-use Rattle.token.proofs.Lent.{part-from}
+use Rattle.basis.proofs.Parts.{part-from}
 use Rattle.token.proofs.caveat_at.Statement.{statement}
 use Rattle.token.proofs.caveat_at.Tie as tie
 use Rattle.token.proofs.caveat_at.Reads as reads

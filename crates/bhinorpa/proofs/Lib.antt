@@ -1,0 +1,4 @@
+pub mod Walking
+pub mod Keyed
+pub mod Found
+pub mod Decoding

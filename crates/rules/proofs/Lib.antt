@@ -1,0 +1,4 @@
+pub mod Walks
+pub mod RuleLaws
+pub mod Meanings
+pub mod OneAnswer

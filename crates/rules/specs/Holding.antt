@@ -1,0 +1,84 @@
+-- What holds when, on trees. Document 01, "What holds when": "Scope: the request's method is in methods; its path starts with prefix,
+-- if there is one; body size is at most max_bytes, if there is one. Caveats, with whole-number sums: ..".
+use mathlib.Core.Bool.{Bool, true, false}
+use mathlib.Core.List.{List, [], _∷_}
+use mathlib.Core.Option.{Option, some, none}
+use Prim.Native.Nat.{ℕ, _+_}
+use lib.Dec.{eqb, leb}
+use Rattle.basis.specs.Basis.{pick}
+use Rattle.basis.specs.Same.{sameOf}
+use Rattle.cidr.specs.Prefixes.{Prefix}
+use Rattle.cidr.specs.Bits.{agreeOf}
+use Rattle.requests.specs.Requests.{Request, PerSecond}
+use Rattle.scope.specs.Scopes.{Scope}
+use Rattle.caveat.specs.Caveats.{Caveat, exp, nbf, aud, method, path-prefix, ip-cidr, bytes-le, rate, tenant, amnesia, gov-policy-digest, custom}
+
+-- "in the list"; an empty list has nothing in it
+unfoldable pub memberOf : List ℕ → List (List ℕ) → Bool
+memberOf m [] = false
+memberOf m (x ∷ xs) = pick (sameOf x m) true (memberOf m xs)
+
+-- "the path starts with it": the prefix fits, byte by byte
+unfoldable pub fitsOf : List ℕ → List ℕ → Bool
+fitsOf [] path = true
+fitsOf (a ∷ p) [] = false
+fitsOf (a ∷ p) (b ∷ t) = pick (eqb a b) (fitsOf p t) false
+
+-- what holds of a part that may be absent: "if there is one"
+abbrev pub ifThere : {A : Type 0} → (A → Bool) → Option A → Bool
+ifThere f none = true
+ifThere f (some a) = f a
+
+-- what needs a present part: "a present audience", "a present peer", "a present digest", "the host states a rate"
+abbrev pub onlyThere : {A : Type 0} → (A → Bool) → Option A → Bool
+onlyThere f none = false
+onlyThere f (some a) = f a
+
+abbrev pub addressBytes : Prefix → List ℕ
+addressBytes p = p .a ∷ p .b ∷ p .c ∷ p .d ∷ []
+
+-- "neither of its numbers exceeds the caveat's"
+abbrev pub within : ℕ → ℕ → PerSecond → Bool
+within per-s burst r = pick (leb (r .per-s) per-s) (leb (r .burst) burst) false
+
+-- the number of the answer where a caveat fails
+unfoldable pub failing : Caveat → ℕ
+failing (exp n) = 13
+failing (nbf n) = 14
+failing (aud a) = 15
+failing (method ms) = 10
+failing (path-prefix p) = 11
+failing (ip-cidr p) = 16
+failing (bytes-le n) = 12
+failing (rate per-s burst) = 17
+failing (tenant t) = 18
+failing (amnesia b) = 19
+failing (gov-policy-digest d) = 20
+failing (custom ns name value) = 21
+
+-- `tid` is the token's
+unfoldable pub caveatHolds : Request → List ℕ → Caveat → Bool
+caveatHolds r tid (exp n) = leb (r .now) (n + r .skew)
+caveatHolds r tid (nbf n) = leb n (r .now + r .skew)
+caveatHolds r tid (aud a) = onlyThere (sameOf a) (r .audience)
+caveatHolds r tid (method ms) = memberOf (r .method) ms
+caveatHolds r tid (path-prefix p) = fitsOf p (r .path)
+caveatHolds r tid (ip-cidr p) = onlyThere (λ x. agreeOf (addressBytes p) x (p .size)) (r .peer)
+caveatHolds r tid (bytes-le n) = leb (r .size) n
+caveatHolds r tid (rate per-s burst) = onlyThere (within per-s burst) (r .rate)
+caveatHolds r tid (tenant t) = sameOf t tid
+caveatHolds r tid (amnesia true) = r .amnesia
+caveatHolds r tid (amnesia false) = true
+caveatHolds r tid (gov-policy-digest d) = onlyThere (sameOf d) (r .digest)
+-- "A custom caveat never holds in this build."
+caveatHolds r tid (custom ns name value) = false
+
+-- 0, or the number of the first of method, path and bytes that fails
+unfoldable pub scopeAnswer : Request → Scope → ℕ
+scopeAnswer r x =
+    pick (memberOf (r .method) (x .methods))
+    (pick (ifThere (λ p. fitsOf p (r .path)) (x .prefix))
+    (pick (ifThere (leb (r .size)) (x .max-bytes)) 0 12) 11) 10
+
+unfoldable pub caveatAnswer : Request → List ℕ → Caveat → ℕ
+caveatAnswer r tid c = pick (caveatHolds r tid c) 0 (failing c)
