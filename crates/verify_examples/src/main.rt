@@ -1,0 +1,285 @@
+// Runs document 01's examples that verify can show: for each a line that says "allow", or "deny " and
+// the name of the reason.
+//
+// All bytes stand here as document 01's rules make them, written without the product's code. A token's
+// tag is the last link of document 01's chain, hashed by the official b3sum --keyed under the key that ends
+// the table's row; one example then changes a bit of it. Tokens are tenant-1's under kid-2025-10, one under
+// kid-2025-11. host/checks/tests/verify_examples.rs makes all but these two from their parts with the
+// official crate.
+use answers::Answer;
+use libc::STDOUT_FILENO;
+
+fn answer_of(number: u32) -> Answer {
+    match number {
+        0 => Answer::Allow,
+        1 => Answer::TableBad,
+        2 => Answer::CtxBad,
+        3 => Answer::ParseB64,
+        4 => Answer::ParseCbor,
+        5 => Answer::ParseBounds,
+        6 => Answer::SchemaUnknownField,
+        7 => Answer::KidUnknown,
+        8 => Answer::MacMismatch,
+        9 => Answer::TenantMismatch,
+        10 => Answer::CaveatMethod,
+        11 => Answer::CaveatPath,
+        12 => Answer::CaveatBytes,
+        13 => Answer::CaveatExp,
+        14 => Answer::CaveatNbf,
+        15 => Answer::CaveatAud,
+        16 => Answer::CaveatIp,
+        17 => Answer::CaveatRate,
+        18 => Answer::CaveatTenant,
+        19 => Answer::CaveatAmnesia,
+        20 => Answer::CaveatPolicyDigest,
+        21 => Answer::CaveatCustomUnknown,
+        _ => Answer::HashBad,
+    }
+}
+
+fn print_name(number: u32) {
+    let mut room = [0u8; 32];
+    let n = answers::name(answer_of(number), &mut room);
+    let end = basis::least(n, 32);
+    io::write_all(STDOUT_FILENO, &room[..end]);
+    io::write_all(STDOUT_FILENO, b"\n");
+}
+
+fn show(label: &[u8], table: &[u8], request: &[u8], token: &[u8]) {
+    io::write_all(STDOUT_FILENO, label);
+    let number = bhinorpa::verify(table, request, token);
+    if number != 0 {
+        io::write_all(STDOUT_FILENO, b"deny ");
+    }
+    print_name(number);
+}
+
+// Under a table of one row: its body's length and kind, then tid, kid and key.
+fn show_asked(label: &[u8], request: &[u8], token: &[u8]) {
+    show(
+        label,
+        b"\x35\0\x01\0\x08tenant-1\x0bkid-2025-10whats the Elvish word for friend",
+        request,
+        token,
+    );
+}
+
+// For GET on / at time 0, with skew 300. A request line by line: now; body size; skew and flags; the peer,
+// if flagged; method, path and tenant, each after its length.
+fn show_token(label: &[u8], token: &[u8]) {
+    show_asked(
+        label,
+        b"\0\0\0\0\0\0\0\0\
+          \0\0\0\0\0\0\0\0\
+          \x2c\x01\0\
+          \x03\0GET\x01\0/\x08\0tenant-1",
+        token,
+    );
+}
+
+// A request for the token that expires at 1767225600.
+fn show_exp(label: &[u8], request: &[u8]) {
+    show_asked(
+        label,
+        request,
+        b"pmFjgaJhdGNleHBhdhppVbkAYXKhZ21ldGhvZHOBY0dFVGFzWCDF0rJK6U34-UPJoEDZfFDTiclDGB1eMAAu8RqsKH8deGF2AWNraWRra2lkLTIwMjUtMTBjdGlkaHRlbmFudC0x",
+    );
+}
+
+// A request for the token that expires at 2^64 - 1.
+fn show_last_exp(label: &[u8], request: &[u8]) {
+    show_asked(
+        label,
+        request,
+        b"pmFjgaJhdGNleHBhdhv__________2FyoWdtZXRob2RzgWNHRVRhc1ggJSPb04q_RW8J_vRcXOdgttDyo9koO6zLNsDfhJdpHBthdgFja2lka2tpZC0yMDI1LTEwY3RpZGh0ZW5hbnQtMQ",
+    );
+}
+
+fn expiries() {
+    show_exp(
+        b"exp 1767225600, skew 300, at 1767225900: ",
+        b"\x2c\xba\x55\x69\0\0\0\0\
+          \0\0\0\0\0\0\0\0\
+          \x2c\x01\0\
+          \x03\0GET\x01\0/\x08\0tenant-1",
+    );
+    show_exp(
+        b"exp 1767225600, skew 300, at 1767225901: ",
+        b"\x2d\xba\x55\x69\0\0\0\0\
+          \0\0\0\0\0\0\0\0\
+          \x2c\x01\0\
+          \x03\0GET\x01\0/\x08\0tenant-1",
+    );
+    show_last_exp(
+        b"exp 2^64 - 1, skew 0, at 2^64 - 1: ",
+        b"\xff\xff\xff\xff\xff\xff\xff\xff\
+          \0\0\0\0\0\0\0\0\
+          \0\0\0\
+          \x03\0GET\x01\0/\x08\0tenant-1",
+    );
+    show_last_exp(
+        b"exp 2^64 - 1, skew 300, at 2^64 - 1: ",
+        b"\xff\xff\xff\xff\xff\xff\xff\xff\
+          \0\0\0\0\0\0\0\0\
+          \x2c\x01\0\
+          \x03\0GET\x01\0/\x08\0tenant-1",
+    );
+}
+
+// A request for the token whose caveat is ip_cidr 10.0.0.0/8.
+fn show_peer(label: &[u8], request: &[u8]) {
+    show_asked(
+        label,
+        request,
+        b"pmFjgaJhdGdpcF9jaWRyYXZqMTAuMC4wLjAvOGFyoWdtZXRob2RzgWNHRVRhc1gg1fw-FCLvb6wifpJIStdN202IA2wjWeaa8rufixq9Ov9hdgFja2lka2tpZC0yMDI1LTEwY3RpZGh0ZW5hbnQtMQ",
+    );
+}
+
+fn addresses() {
+    show_peer(
+        b"ip_cidr 10.0.0.0/8, peer 10.255.255.255: ",
+        b"\0\0\0\0\0\0\0\0\
+          \0\0\0\0\0\0\0\0\
+          \x2c\x01\x02\
+          \x0a\xff\xff\xff\
+          \x03\0GET\x01\0/\x08\0tenant-1",
+    );
+    show_peer(
+        b"ip_cidr 10.0.0.0/8, peer 11.0.0.0: ",
+        b"\0\0\0\0\0\0\0\0\
+          \0\0\0\0\0\0\0\0\
+          \x2c\x01\x02\
+          \x0b\0\0\0\
+          \x03\0GET\x01\0/\x08\0tenant-1",
+    );
+    show_peer(
+        b"ip_cidr 10.0.0.0/8, peer 9.255.255.255: ",
+        b"\0\0\0\0\0\0\0\0\
+          \0\0\0\0\0\0\0\0\
+          \x2c\x01\x02\
+          \x09\xff\xff\xff\
+          \x03\0GET\x01\0/\x08\0tenant-1",
+    );
+    show_peer(
+        b"ip_cidr 10.0.0.0/8, no peer: ",
+        b"\0\0\0\0\0\0\0\0\
+          \0\0\0\0\0\0\0\0\
+          \x2c\x01\0\
+          \x03\0GET\x01\0/\x08\0tenant-1",
+    );
+    show_token(
+        b"ip_cidr 10.0.0.1/8: ",
+        b"pmFjgaJhdGdpcF9jaWRyYXZqMTAuMC4wLjEvOGFyoWdtZXRob2RzgWNHRVRhc1ggfS5kyOlf2LXP5ihOAcLu4pXZFf7DHxIuQx8cgi6f_JxhdgFja2lka2tpZC0yMDI1LTEwY3RpZGh0ZW5hbnQtMQ",
+    );
+}
+
+// A request for /o/b3:abcd/some.
+fn show_under(label: &[u8], token: &[u8]) {
+    show_asked(
+        label,
+        b"\0\0\0\0\0\0\0\0\
+          \0\0\0\0\0\0\0\0\
+          \x2c\x01\0\
+          \x03\0GET\x0f\0/o/b3:abcd/some\x08\0tenant-1",
+        token,
+    );
+}
+
+// A request for /o/b3:abc.
+fn show_beside(label: &[u8], token: &[u8]) {
+    show_asked(
+        label,
+        b"\0\0\0\0\0\0\0\0\
+          \0\0\0\0\0\0\0\0\
+          \x2c\x01\0\
+          \x03\0GET\x09\0/o/b3:abc\x08\0tenant-1",
+        token,
+    );
+}
+
+fn prefixes() {
+    let scope =
+        b"pmFjgGFyomZwcmVmaXhqL28vYjM6YWJjZGdtZXRob2RzgWNHRVRhc1ggXSWz1DStvLN4PhmvDAiV9BD9P9WgYQuZeiqBjCt8NHRhdgFja2lka2tpZC0yMDI1LTEwY3RpZGh0ZW5hbnQtMQ";
+    show_under(b"scope prefix /o/b3:abcd, path /o/b3:abcd/some: ", scope);
+    show_beside(b"scope prefix /o/b3:abcd, path /o/b3:abc: ", scope);
+    let caveat =
+        b"pmFjgaJhdGtwYXRoX3ByZWZpeGF2ai9vL2IzOmFiY2RhcqFnbWV0aG9kc4FjR0VUYXNYIBG7wngNTNmJXtEA-o_5LWpc1Ai_ALmlpVy6xdb_GE7rYXYBY2tpZGtraWQtMjAyNS0xMGN0aWRodGVuYW50LTE";
+    show_under(b"path_prefix /o/b3:abcd, path /o/b3:abcd/some: ", caveat);
+    show_beside(b"path_prefix /o/b3:abcd, path /o/b3:abc: ", caveat);
+}
+
+fn methods() {
+    show_token(
+        b"no methods in the scope: ",
+        b"pmFjgGFyoWdtZXRob2RzgGFzWCCjtE8O4CO3A5fXAtcbo9MWqmuG0IekxlgVeaEMXrnzl2F2AWNraWRra2lkLTIwMjUtMTBjdGlkaHRlbmFudC0x",
+    );
+    show_token(
+        b"no methods in a method caveat: ",
+        b"pmFjgaJhdGZtZXRob2RhdoBhcqFnbWV0aG9kc4FjR0VUYXNYICoMF_URhs2cXRFMKkbjaPR_6fDWXP9Zi7iUeHuzI0YIYXYBY2tpZGtraWQtMjAyNS0xMGN0aWRodGVuYW50LTE",
+    );
+}
+
+// Its scope, its three caveats and its request, with a body as long as max_bytes allows and no skew.
+fn sample() {
+    show_asked(
+        b"the sample of document 004, section 5.2: ",
+        b"\xff\xb8\x55\x69\0\0\0\0\
+          \0\0\x10\0\0\0\0\0\
+          \0\0\0\
+          \x03\0GET\x0f\0/o/b3:abcd/some\x08\0tenant-1",
+        b"pmFjg6JhdGNleHBhdhppVbkAomF0Zm1ldGhvZGF2gWNHRVSiYXRrcGF0aF9wcmVmaXhhdmovby9iMzphYmNkYXKjZnByZWZpeGovby9iMzphYmNkZ21ldGhvZHOBY0dFVGltYXhfYnl0ZXMaABAAAGFzWCC3UIoABBqgrX5FW7WpQugqlFc4ZkXOGVVw-F0h-XMFRWF2AWNraWRra2lkLTIwMjUtMTBjdGlkaHRlbmFudC0x",
+    );
+}
+
+fn keys_and_tags() {
+    show_token(
+        b"a key id that is not in the table: ",
+        b"pmFjgGFyoWdtZXRob2RzgWNHRVRhc1gg4MhjIW5hQLWjU8A6027pb2VW2FihxQM09zC15LTVwbZhdgFja2lka2tpZC0yMDI1LTExY3RpZGh0ZW5hbnQtMQ",
+    );
+    show_token(
+        b"one bit of the tag changed: ",
+        b"pmFjgGFyoWdtZXRob2RzgWNHRVRhc1gg1LkAvHZ-TOaDZFIaxXS1MQrPO4ELXxUPIjBJn-qTvYZhdgFja2lka2tpZC0yMDI1LTEwY3RpZGh0ZW5hbnQtMQ",
+    );
+}
+
+// A good token, allowed where nothing else is wrong.
+fn surroundings() {
+    let good =
+        b"pmFjgGFyoWdtZXRob2RzgWNHRVRhc1gg1LkAvHZ-TOaDZFIaxXS1MQrPO4ELXxUPIjBJn-qTvYdhdgFja2lka2tpZC0yMDI1LTEwY3RpZGh0ZW5hbnQtMQ";
+    show_asked(
+        b"a request of another tenant: ",
+        b"\0\0\0\0\0\0\0\0\
+          \0\0\0\0\0\0\0\0\
+          \x2c\x01\0\
+          \x03\0GET\x01\0/\x08\0tenant-2",
+        good,
+    );
+    show(
+        b"a table cut by one byte: ",
+        b"\x35\0\x01\0\x08tenant-1\x0bkid-2025-10whats the Elvish word for frien",
+        b"\0\0\0\0\0\0\0\0\
+          \0\0\0\0\0\0\0\0\
+          \x2c\x01\0\
+          \x03\0GET\x01\0/\x08\0tenant-1",
+        good,
+    );
+    show_asked(b"an empty request: ", b"", good);
+}
+
+fn texts() {
+    show_token(b"the empty text: ", b"");
+    let long = [b'='; 5463];
+    show_token(b"text of 5,463 characters: ", &long);
+    show_token(b"\"_x\": ", b"_x");
+}
+
+fn main() {
+    expiries();
+    addresses();
+    prefixes();
+    methods();
+    sample();
+    keys_and_tags();
+    surroundings();
+    texts();
+}
