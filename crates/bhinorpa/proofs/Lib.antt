@@ -1,4 +1,8 @@
 pub mod Walking
+pub mod Tags
 pub mod Keyed
 pub mod Found
 pub mod Decoding
+pub mod Judged
+pub mod Texts
+pub mod Demands

@@ -1,2 +1,4 @@
 pub mod Verifying
 pub mod Ready
+pub mod Allowed
+pub mod Verdicts

@@ -10,6 +10,7 @@ use token::TokenParts;
 ghost use mathlib.Core.Path.{_≡_};
 ghost use Prim.Native.Nat.{_≤_};
 ghost use lib.ListN.{length};
+ghost use Rattle.basis.specs.Same.{sameOf};
 ghost use Rattle.rules.specs.Judging.{caveatJudged};
 ghost use Rattle.bhinorpa.specs.Verifying.{soFar, walkedOf, scopeAt, keyThen, bytesThen, textThen, verifyOf};
 ghost use Rattle.bhinorpa.specs.Ready.{Walkable, Ready};
@@ -99,6 +100,24 @@ fn scope_at(s: &[u8], at: usize, body: &[u8], asked: Asked) -> u32
     }
 }
 
+// Looks at all 32 bytes whether or not they differ, so that its time tells nothing of the tag.
+fn same_tag(link: [u8; 32], tag: &[u8]) -> bool
+    ensures { λ r. ⌜ r ≡ sameOf link (now (tag .entry)) ⌝ }
+{
+    if tag.len() != 32 {
+        return false;
+    }
+    let mut same = true;
+    let mut i: usize = 0;
+    while i < 32 {
+        if link[i] != tag[i] {
+            same = false;
+        }
+        i += 1;
+    }
+    same
+}
+
 // With the key: the tag over all its bytes, the tenant, the scope, the caveats.
 fn with_key(key: &[u8], s: &[u8], at: TokenAt, body: &[u8], asked: Asked, tenant: &[u8]) -> u32
     requires { ⌜ Ready (now key) (now s) at ⌝ }
@@ -108,8 +127,11 @@ fn with_key(key: &[u8], s: &[u8], at: TokenAt, body: &[u8], asked: Asked, tenant
     let kid = basis::part(s, at.kid, at.kid_end);
     let first = chain::first_link(key, tid, kid, basis::part(s, at.scope, at.scope_end));
     let walked = walk(s, at.from, at.count, key, first, body, asked, tid);
-    if basis::same(&walked.link, basis::run(s, at.tag, 32)) {
-        if basis::same(tid, tenant) {
+    let link = walked.link;
+    let tagged = same_tag(link, basis::run(s, at.tag, 32));
+    let own = basis::same(tid, tenant);
+    if tagged {
+        if own {
             let scope = scope_at(s, at.scope, body, asked);
             if scope == 0 {
                 return walked.answer;

@@ -33,7 +33,7 @@ CaveatIn size (Of part next) = next ≤ size
 CaveatIn size (Bad kind at) = at ≤ size
 
 -- what holds of every value's reading holds of the one that t picks
-value-ways : (P : CaveatParts → Type 0) (s : List ℕ) (t at : ℕ) → ((t : ℕ) (class : Class) (high : ℕ) → P (textValue s t class high at)) → P (methodValue s at)
+pub value-ways : (P : CaveatParts → Type 0) (s : List ℕ) (t at : ℕ) → ((t : ℕ) (class : Class) (high : ℕ) → P (textValue s t class high at)) → P (methodValue s at)
     → P (cidrValue s at) → P (rateValue s at) → P (amnesiaValue s at) → P (digestValue s at) → P (customValue s at) → P (numberValue s t at) → P (valueAt s t at)
 unfolding valueAt
 value-ways P s t at text method cidr rate amnesia digest custom number =

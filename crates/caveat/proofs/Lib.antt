@@ -5,3 +5,4 @@ pub mod CaveatLaws
 pub mod OneCaveat
 pub mod OneAnswer
 pub mod Inside
+pub mod DefectKinds

@@ -38,19 +38,19 @@ module _ (P : Head → Type 0) (at major low k least : ℕ) (t : List ℕ) where
   follow-ways bad good = tested P (ltb (length t) k) (λ e. bad) (λ e. either P (ltb (numberOf (take k t)) least) bad (good (ltb-false _ _ e)))
 
 module _ (P : Count → Type 0) (at major least most above m n next : ℕ) where
-  count-ways : ((kind : ℕ) → P (NoCount kind at)) → P (Counted n next) → P (countBy at major least most above (Got m n next))
+  pub count-ways : P (NoCount 4 at) → P (NoCount above at) → P (Counted n next) → P (countBy at major least most above (Got m n next))
   unfolding countBy
-  count-ways bad good = either P (eqb m major) (either P (ltb n least) (bad 4) (either P (ltb most n) (bad above) good)) (bad 4)
+  count-ways bad over good = either P (eqb m major) (either P (ltb n least) bad (either P (ltb most n) over good)) bad
 
 module _ (P : Span → Type 0) where
-  run-ways : (size at major low high m n next : ℕ) → ((kind : ℕ) → P (NoSpan kind at)) → (n ≤ size - next → P (Found next (next + n)))
+  pub run-ways : (size at major low high m n next : ℕ) → P (NoSpan 4 at) → P (NoSpan 5 at) → (n ≤ size - next → P (Found next (next + n)))
       → P (runBy size at major low high (Got m n next))
   unfolding runBy
-  run-ways size at major low high m n next bad good =
-      let fits = tested P (ltb (size - next) n) (λ e. bad 4) (λ e. good (ltb-false _ _ e)) in
-      either P (eqb m major) (either P (ltb n low) (bad 5) (either P (ltb high n) (bad 5) fits)) (bad 4)
+  run-ways size at major low high m n next bad bounds good =
+      let fits = tested P (ltb (size - next) n) (λ e. bad) (λ e. good (ltb-false _ _ e)) in
+      either P (eqb m major) (either P (ltb n low) bounds (either P (ltb high n) bounds fits)) bad
 
-  content-ways : (class : Class) (s : List ℕ) (from to : ℕ) → P (NoSpan 4 from) → P (Found from to) → P (contentBy class s (Found from to))
+  pub content-ways : (class : Class) (s : List ℕ) (from to : ℕ) → P (NoSpan 4 from) → P (Found from to) → P (contentBy class s (Found from to))
   unfolding contentBy
   content-ways class s from to bad good = either P (contentOf class (take (to - from) (drop from s))) good bad
 
@@ -69,12 +69,12 @@ module _ (size at : ℕ) (h : at ≤ size) where
   count-by : (major least most above : ℕ) (r : Head) → HeadIn size r → CountIn size (countBy at major least most above r)
   unfolding countBy
   count-by major least most above (NoHead a) g = g
-  count-by major least most above (Got m n next) g = count-ways (CountIn size) at major least most above m n next (λ kind. h) g
+  count-by major least most above (Got m n next) g = count-ways (CountIn size) at major least most above m n next h h g
 
   run-by : (major low high : ℕ) (r : Head) → HeadIn size r → SpanIn size (runBy size at major low high r)
   unfolding runBy
   run-by major low high (NoHead a) g = g
-  run-by major low high (Got m n next) g = run-ways (SpanIn size) size at major low high m n next (λ kind. h) (λ f. (g, omega arith))
+  run-by major low high (Got m n next) g = run-ways (SpanIn size) size at major low high m n next h h (λ f. (g, omega arith))
 
 content-by : (size : ℕ) (class : Class) (s : List ℕ) (r : Span) → SpanIn size r → SpanIn size (contentBy class s r)
 unfolding contentBy

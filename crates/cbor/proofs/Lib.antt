@@ -8,3 +8,4 @@ pub mod OneAnswer
 pub mod HeadLengths
 pub mod CountLaws
 pub mod Inside
+pub mod DefectKinds

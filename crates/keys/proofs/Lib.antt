@@ -4,3 +4,4 @@ pub mod StepLaws
 pub mod FieldLaws
 pub mod OneAnswer
 pub mod Inside
+pub mod DefectKinds

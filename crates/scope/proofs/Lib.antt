@@ -6,3 +6,4 @@ pub mod ScopeRead
 pub mod OneScope
 pub mod Inside
 pub mod OneAnswer
+pub mod DefectKinds

@@ -2,7 +2,6 @@
 use mathlib.Core.Path.{_≡_, refl, sym, ap, _∙_}
 use mathlib.Core.Bool.{Bool, true, false}
 use mathlib.Core.List.{List, [], _∷_, _++_}
-use mathlib.Core.Logic.{_⊎_, inl, inr}
 use Prim.Native.Nat.{ℕ, zero, suc, _+_, _-_, _≤_}
 use native.Mathlib.Omega.{arith}
 use borrow.Author.Tests.{eqb-true, eq-eqb, ne-eqb, le-ltb, lt-ltb}
@@ -12,7 +11,7 @@ use Rattle.basis.specs.Basis.{pick, between, IsBytes}
 use Rattle.basis.proofs.Parts.{on}
 use Rattle.records.specs.Records.{little, recordBytes, runAt, numberAt, recordAt}
 use Rattle.tables.specs.Order.{sameIds}
-use Rattle.tables.specs.Tables.{Row, encodeRow, encodeTable, GoodFrom, GoodTable, keyIn}
+use Rattle.tables.specs.Tables.{Row, encodeRow, encodeTable, GoodFrom, GoodTable, hasRow, keyIn}
 use Rattle.tables.specs.Reading.{rowAt, afterRow, orderedThen, rowAfter, okThen, okFrom, tableOk, findThen, findFrom, lookupOf}
 use Rattle.tables.specs.declared.Row.{Row as Parts}
 use Rattle.tables.specs.declared.Row.the-variants.{Of, Bad}
@@ -118,12 +117,16 @@ pub lookup-finds : (rs : List Row) → GoodTable rs → (tid kid : List ℕ) →
 unfolding lookupOf
 lookup-finds rs g tid kid = rw (table-written rs g) (find-finds rs g tid kid)
 
--- a key is 32 bytes or none
-pub key-long : (rs : List Row) (t k : List ℕ) → GoodFrom t k rs → (tid kid : List ℕ) → (length (keyIn rs tid kid) ≡ 32) ⊎ (keyIn rs tid kid ≡ [])
-unfolding GoodFrom keyIn
-key-long [] t k g tid kid = inr refl
-key-long (r ∷ rs) t k g tid kid = by (sameIds (r .tid) (r .kid) tid kid) (key-long rs (r .tid) (r .kid) (g .2) tid kid)
+-- a key is found, and has 32 bytes, exactly where there is a row
+row-key : (rs : List Row) (t k : List ℕ) → GoodFrom t k rs → (tid kid : List ℕ) → eqb (length (keyIn rs tid kid)) 32 ≡ hasRow rs tid kid
+unfolding GoodFrom keyIn hasRow
+row-key [] t k g tid kid = refl
+row-key (r ∷ rs) t k g tid kid = by (sameIds (r .tid) (r .kid) tid kid) (row-key rs (r .tid) (r .kid) (g .2) tid kid)
   where
-    by : (b : Bool) → (length (keyIn rs tid kid) ≡ 32) ⊎ (keyIn rs tid kid ≡ []) → (length (pick b (r .key) (keyIn rs tid kid)) ≡ 32) ⊎ (pick b (r .key) (keyIn rs tid kid) ≡ [])
-    by true m = inl (g .0 .key-long)
+    by : (b : Bool) → eqb (length (keyIn rs tid kid)) 32 ≡ hasRow rs tid kid
+        → eqb (length (pick b (r .key) (keyIn rs tid kid))) 32 ≡ pick b true (hasRow rs tid kid)
+    by true m = eq-eqb (length (r .key)) 32 (g .0 .key-long)
     by false m = m
+
+pub key-of-row : (rs : List Row) → GoodTable rs → (tid kid : List ℕ) → eqb (length (keyIn rs tid kid)) 32 ≡ hasRow rs tid kid
+key-of-row rs g tid kid = row-key rs [] [] (g .rows) tid kid

@@ -2,7 +2,7 @@
 -- body: tid length (1 byte), tid, kid length, kid, 32 key bytes; strictly ascending"; tid and kid as everywhere: "1 to 64 of letters,
 -- digits, "-", ".", "_"".
 use mathlib.Core.Path.{_≡_}
-use mathlib.Core.Bool.{true}
+use mathlib.Core.Bool.{Bool, true, false}
 use mathlib.Core.List.{List, [], _∷_, _++_}
 use Prim.Native.Nat.{ℕ, _≤_}
 use lib.ListN.{length}
@@ -38,6 +38,11 @@ GoodFrom t k (r ∷ rs) = GoodRow r × (ascends t k (r .tid) (r .kid) ≡ true) 
 pub record GoodTable (rs : List Row) : Type 0 where
   pub few : length rs ≤ 64
   pub rows : GoodFrom [] [] rs
+
+-- whether there is a row with these ids
+unfoldable pub hasRow : List Row → List ℕ → List ℕ → Bool
+hasRow [] tid kid = false
+hasRow (r ∷ rs) tid kid = pick (sameIds (r .tid) (r .kid) tid kid) true (hasRow rs tid kid)
 
 -- the key of the row with these ids; nothing where there is no such row
 unfoldable pub keyIn : List Row → List ℕ → List ℕ → List ℕ

@@ -20,25 +20,25 @@ ItemIn size (End next) = next ≤ size
 ItemIn size (Bad kind at) = at ≤ size
 
 -- the ways out of each definition, for whatever is to hold of its answer
-module _ (P : Item → Type 0) (s : List ℕ) (at next n : ℕ) (bad : (kind : ℕ) → P (Bad kind at)) where
-  run-ways : (n ≤ length s - next → P (End (next + n))) → P (runOf s at next n)
+module _ (P : Item → Type 0) (s : List ℕ) (at next n : ℕ) (bad : P (Bad 4 at)) where
+  pub run-ways : (n ≤ length s - next → P (End (next + n))) → P (runOf s at next n)
   unfolding runOf
-  run-ways good = tested P (ltb (length s - next) n) (λ e. bad 4) (λ e. good (ltb-false _ _ e))
+  run-ways good = tested P (ltb (length s - next) n) (λ e. bad) (λ e. good (ltb-false _ _ e))
 
-  text-ways : P (Bad 4 next) → (n ≤ length s - next → P (End (next + n))) → P (textOf s at next n)
+  pub text-ways : P (Bad 4 next) → (n ≤ length s - next → P (End (next + n))) → P (textOf s at next n)
   unfolding textOf
-  text-ways ill good = tested P (ltb (length s - next) n) (λ e. bad 4) (λ e. either P (utf8 (take n (drop next s))) (good (ltb-false _ _ e)) ill)
+  text-ways ill good = tested P (ltb (length s - next) n) (λ e. bad) (λ e. either P (utf8 (take n (drop next s))) (good (ltb-false _ _ e)) ill)
 
-  major-ways : (array : ℕ → ℕ → Item) (major : ℕ) → P (End next) → P (runOf s at next n) → P (textOf s at next n) → P (array n next)
+  pub major-ways : (array : ℕ → ℕ → Item) (major : ℕ) → P (End next) → P (runOf s at next n) → P (textOf s at next n) → P (array n next)
       → P (byMajor array s at (Got major n next))
   unfolding byMajor
   major-ways array major end run text deeper =
-      let simple = either P (ltb n 20) (bad 4) (either P (ltb n 23) end (bad 4)) in
+      let simple = either P (ltb n 20) bad (either P (ltb n 23) end bad) in
       either P (ltb major 2) end
       (either P (eqb major 2) run
       (either P (eqb major 3) text
       (either P (eqb major 4) deeper
-      (either P (eqb major 7) simple (bad 4)))))
+      (either P (eqb major 7) simple bad))))
 
 module _ (array : ℕ → ℕ → Item) (s : List ℕ) (at : ℕ) (h : at ≤ length s) (deeper : (n next : ℕ) → next ≤ length s → ItemIn (length s) (array n next)) where
   major-in : (r : Head) → HeadIn (length s) r → ItemIn (length s) (byMajor array s at r)
@@ -46,9 +46,9 @@ module _ (array : ℕ → ℕ → Item) (s : List ℕ) (at : ℕ) (h : at ≤ le
   major-in (NoHead a) g = g
   major-in (Got major n next) g =
       let In = ItemIn (length s) in
-      major-ways In s at next n (λ kind. h) array major g
-      (run-ways In s at next n (λ kind. h) (λ f. omega arith))
-      (text-ways In s at next n (λ kind. h) g (λ f. omega arith))
+      major-ways In s at next n h array major g
+      (run-ways In s at next n h (λ f. omega arith))
+      (text-ways In s at next n h g (λ f. omega arith))
       (deeper n next g)
 
 then-in : (size : ℕ) (f : ℕ → Item) → ((next : ℕ) → next ≤ size → ItemIn size (f next)) → (i : Item) → ItemIn size i → ItemIn size (andThen i f)

@@ -5,3 +5,4 @@ pub mod TreeReads
 pub mod TreesRead
 pub mod OneTree
 pub mod Inside
+pub mod DefectKinds

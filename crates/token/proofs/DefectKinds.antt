@@ -1,0 +1,138 @@
+-- Every defect of a token has one of the three numbers of reading: step by step, by keys' DefectKinds.
+use mathlib.Core.Path.{_≡_, subst}
+use mathlib.Core.List.{List}
+use Prim.{Unit, tt}
+use Prim.Native.Nat.{ℕ}
+use lib.Dec.{eqb}
+use lib.ListN.{length, drop}
+use Rattle.basis.proofs.Picks.{either}
+use Rattle.cbor.specs.Counts.{readCount}
+use Rattle.cbor.specs.Strings.{readRun}
+use Rattle.cbor.specs.declared.Span.the-variants.{Of as Found, Bad as NoSpan}
+use Rattle.cbor.proofs.DefectKinds.{Kind, kind-4, kind-5, kind-6, SpanKind, count-kinds, run-kinds}
+use Rattle.values.specs.Reading.{itemsOf}
+use Rattle.values.specs.declared.Item.the-variants.{End, Bad as NoItem}
+use Rattle.values.proofs.DefectKinds.{ItemKind, items-kinds}
+use Rattle.keys.specs.Keys.{wantedKey}
+use Rattle.keys.specs.Fields.{nameField, numberAt}
+use Rattle.keys.specs.declared.Names.the-variants.{Token as TokenKeys}
+use Rattle.keys.proofs.DefectKinds.{item-step, span-step, count-step, wanted-kinds, number-kinds, name-field-kinds}
+use Rattle.scope.specs.Reading.{scopeOf}
+use Rattle.scope.proofs.DefectKinds.{scope-kinds, scope-step}
+use Rattle.caveat.specs.Reading.{caveatOf}
+use Rattle.caveat.specs.declared.CaveatParts.{CaveatParts}
+use Rattle.caveat.specs.declared.CaveatParts.the-variants.{Of as CaveatAt, Bad as NoCaveat}
+use Rattle.caveat.proofs.DefectKinds.{CaveatKind, caveat-kinds}
+use Rattle.token.specs.Reading.{endBy, caveatEnd, frontThen, rThen, rKeyThen, caveatsThen, cThen, mapThen, frontOf}
+use Rattle.token.specs.Reading.{tagBad, tagAt, tagField, versionThen, versionAt, versionField, endThen, tidThen, kidThen, vThen, backOf}
+use Rattle.token.specs.Reading.{tokenThen, tokenBy, tokenOf}
+use Rattle.token.specs.declared.Front.{Front}
+use Rattle.token.specs.declared.Front.the-variants.{Of as FrontOf, Bad as NoFront}
+use Rattle.token.specs.declared.Back.{Back}
+use Rattle.token.specs.declared.Back.the-variants.{Of as BackOf, Bad as NoBack}
+use Rattle.token.specs.declared.TokenParts.{TokenParts}
+use Rattle.token.specs.declared.TokenParts.the-variants.{Of, Bad}
+
+abbrev pub FrontKind : Front → Type 0
+FrontKind (FrontOf count from to scope scope-end) = Unit {0}
+FrontKind (NoFront kind at) = Kind kind
+
+abbrev pub BackKind : Back → Type 0
+BackKind (BackOf tag kid kid-end tid tid-end) = Unit {0}
+BackKind (NoBack kind at) = Kind kind
+
+abbrev pub TokenKind : TokenParts → Type 0
+TokenKind (Of count from to scope scope-end tag kid kid-end tid tid-end) = Unit {0}
+TokenKind (Bad kind at) = Kind kind
+
+no-front : (kind at : ℕ) → Kind kind → FrontKind (NoFront kind at)
+no-front kind at h = h
+
+no-back : (kind at : ℕ) → Kind kind → BackKind (NoBack kind at)
+no-back kind at h = h
+
+end-by : (at : ℕ) (c : CaveatParts) → CaveatKind c → ItemKind (endBy at c)
+unfolding endBy
+end-by at (NoCaveat kind a) h = h
+end-by at (CaveatAt caveat n) h = tt
+
+then-kinds : (count from to scope scope-end : ℕ) (b : Back) → BackKind b → TokenKind (tokenThen count from to scope scope-end b)
+then-kinds count from to scope scope-end (NoBack kind at) h = h
+then-kinds count from to scope scope-end (BackOf tag kid kid-end tid tid-end) h = tt
+
+module _ (s : List ℕ) where
+  r-kinds : (count from to at : ℕ) → FrontKind (rThen s count from to at)
+  unfolding rThen
+  r-kinds count from to at = scope-step FrontKind NoFront no-front (frontThen count from to at) (λ p k f t l next. tt) (scopeOf s at) (scope-kinds s at)
+
+  r-key-kinds : (count from to : ℕ) → FrontKind (rKeyThen s count from to)
+  unfolding rKeyThen
+  r-key-kinds count from to =
+      item-step FrontKind NoFront no-front (rThen s count from to) (r-kinds count from to) (wantedKey TokenKeys s to 1) (wanted-kinds TokenKeys s to 1)
+
+  caveats-kinds : (count from : ℕ) → FrontKind (caveatsThen s count from)
+  unfolding caveatsThen
+  caveats-kinds count from =
+      let each : (at : ℕ) → ItemKind (caveatEnd s at) = λ at. end-by at (caveatOf (drop at s)) (caveat-kinds (drop at s)) in
+      item-step FrontKind NoFront no-front (rKeyThen s count from) (r-key-kinds count from) (itemsOf (caveatEnd s) count from)
+      (items-kinds (caveatEnd s) each count from)
+
+  c-kinds : (at : ℕ) → FrontKind (cThen s at)
+  unfolding cThen
+  c-kinds at = count-step FrontKind NoFront no-front (caveatsThen s) caveats-kinds (readCount s at 4 0 64 5) (count-kinds s at 4 0 64 5 kind-5)
+
+  map-kinds : (n at : ℕ) → FrontKind (mapThen s n at)
+  unfolding mapThen
+  map-kinds n at = item-step FrontKind NoFront no-front (cThen s) c-kinds (wantedKey TokenKeys s at 0) (wanted-kinds TokenKeys s at 0)
+
+  pub front-kinds : FrontKind (frontOf s)
+  unfolding frontOf
+  front-kinds = count-step FrontKind NoFront no-front (mapThen s) map-kinds (readCount s 0 5 6 6 6) (count-kinds s 0 5 6 6 6 kind-6)
+
+  tag-kinds : (at : ℕ) → SpanKind (tagAt s at)
+  unfolding tagAt
+  tag-kinds at = span-step SpanKind tagBad (λ kind a h. kind-4) Found (λ from to. tt) (readRun s at 2 32 32) (run-kinds s at 2 32 32)
+
+  tag-field-kinds : (at : ℕ) → SpanKind (tagField s at)
+  unfolding tagField
+  tag-field-kinds at = item-step SpanKind NoSpan (λ kind a h. h) (tagAt s) tag-kinds (wantedKey TokenKeys s at 2) (wanted-kinds TokenKeys s at 2)
+
+  version-kinds : (at : ℕ) → ItemKind (versionAt s at)
+  unfolding versionAt versionThen
+  version-kinds at =
+      count-step ItemKind NoItem (λ kind a h. h) (versionThen at) (λ n next. either ItemKind {x = End next} {y = NoItem 6 at} (eqb n 1) tt kind-6)
+      (numberAt s 0xffffffffffffffff at) (number-kinds s 0xffffffffffffffff at)
+
+  version-field-kinds : (at : ℕ) → ItemKind (versionField s at)
+  unfolding versionField
+  version-field-kinds at = item-step ItemKind NoItem (λ kind a h. h) (versionAt s) version-kinds (wantedKey TokenKeys s at 3) (wanted-kinds TokenKeys s at 3)
+
+  end-kinds : (tag kid kid-end tid tid-end : ℕ) → BackKind (endThen s tag kid kid-end tid tid-end)
+  unfolding endThen
+  end-kinds tag kid kid-end tid tid-end = either BackKind (eqb tid-end (length s)) tt kind-4
+
+  tid-kinds : (tag kid kid-end : ℕ) → BackKind (tidThen s tag kid kid-end)
+  unfolding tidThen
+  tid-kinds tag kid kid-end =
+      span-step BackKind NoBack no-back (endThen s tag kid kid-end) (end-kinds tag kid kid-end) (nameField TokenKeys s kid-end 5)
+      (name-field-kinds TokenKeys s kid-end 5)
+
+  kid-kinds : (tag at : ℕ) → BackKind (kidThen s tag at)
+  unfolding kidThen
+  kid-kinds tag at = span-step BackKind NoBack no-back (tidThen s tag) (tid-kinds tag) (nameField TokenKeys s at 4) (name-field-kinds TokenKeys s at 4)
+
+  v-kinds : (tag at : ℕ) → BackKind (vThen s tag at)
+  unfolding vThen
+  v-kinds tag at = item-step BackKind NoBack no-back (kidThen s tag) (kid-kinds tag) (versionField s at) (version-field-kinds at)
+
+  pub back-kinds : (at : ℕ) → BackKind (backOf s at)
+  unfolding backOf
+  back-kinds at = span-step BackKind NoBack no-back (vThen s) v-kinds (tagField s at) (tag-field-kinds at)
+
+  token-by : (f : Front) → FrontKind f → TokenKind (tokenBy s f)
+  unfolding tokenBy
+  token-by (NoFront kind at) h = h
+  token-by (FrontOf count from to scope scope-end) h = then-kinds count from to scope scope-end (backOf s scope-end) (back-kinds scope-end)
+
+pub token-kind : (s : List ℕ) {kind a : ℕ} → tokenOf s ≡ Bad kind a → Kind kind
+token-kind s e = subst TokenKind e (token-by s (frontOf s) (front-kinds s))
