@@ -2,10 +2,10 @@
 use mathlib.Core.Path.{_≡_, refl, sym, ap, _∙_}
 use mathlib.Core.Bool.{Bool, true, false}
 use mathlib.Core.List.{List, [], _∷_}
-use Prim.Native.Nat.{ℕ, suc, _+_, _-_, _≤_, _<_}
+use Prim.Native.Nat.{ℕ, suc, _+_, _-_, _%_, _^_, _≤_, _<_}
 use native.Mathlib.Numerals.{add-one}
 use native.Mathlib.Omega.{arith}
-use borrow.Author.Tests.{eq-eqb, ne-eqb, le-leb, lt-leb, leb-true, leb-false}
+use borrow.Author.Tests.{eq-eqb, ne-eqb, le-leb}
 use lib.Dec.{eqb, leb}
 use lib.ListN.{length, drop, getD, drop-of-length-le}
 use lib.Seq.{drop-cons}
@@ -62,10 +62,9 @@ module _ (k : ℕ) (s m : List ℕ) (p : ℕ) (g : 0 < k) where
     unfolding memberAt
     next-method q = rw (e, q) at one-method
 
--- a sum that is not made: the difference decides
-pub by-difference : (a b c : ℕ) → b < a → leb (a - b) c ≡ leb a (b + c)
-by-difference a b c h = by (leb (a - b) c) refl
-  where
-    by : (u : Bool) → leb (a - b) c ≡ u → u ≡ leb a (b + c)
-    by true p = sym (le-leb a (b + c) (omega (arith, leb-true (a - b) c p)))
-    by false p = sym (lt-leb a (b + c) (omega (arith, leb-false (a - b) c p)))
+-- a sum that passed the top is more than any number of 64 bits; one that did not is the sum
+pub past-top : (a b skew last : ℕ) → a < 2 ^ 64 → b < 2 ^ 64 → skew < 2 ^ 64 → last ≡ (b + skew) % 2 ^ 64 → last < b → true ≡ leb a (b + skew)
+past-top a b skew last ha hb hs e h = sym (le-leb a (b + skew) (omega arith))
+
+pub below-top : (a b skew last : ℕ) → b < 2 ^ 64 → skew < 2 ^ 64 → last ≡ (b + skew) % 2 ^ 64 → b ≤ last → leb a last ≡ leb a (b + skew)
+below-top a b skew last hb hs e h = let z : last ≡ b + skew = omega arith in ap (leb a) z

@@ -72,23 +72,15 @@ fn method_in(s: &[u8], from: usize, count: u64, method: &[u8]) -> bool
     0 < k
 }
 
-// Whole-number sums, without a sum that could wrap.
-fn exp_holds(time: u64, skew: u64, n: u64) -> bool
-    ensures { λ r. ⌜ r ≡ leb time (n + skew) ⌝ }
+// Whether a is at most b and the skew. The sum is that of whole numbers: past the top no time lies behind it.
+fn within_skew(a: u64, b: u64, skew: u64) -> bool
+    ensures { λ r. ⌜ r ≡ leb a (b + skew) ⌝ }
 {
-    if time <= n {
+    let last = std::num::wrapping_add_u64(b, skew);
+    if last < b {
         return true;
     }
-    time - n <= skew
-}
-
-fn nbf_holds(time: u64, skew: u64, n: u64) -> bool
-    ensures { λ r. ⌜ r ≡ leb n (time + skew) ⌝ }
-{
-    if n <= time {
-        return true;
-    }
-    n - time <= skew
+    a <= last
 }
 
 fn rate_holds(rate: Rate, per_s: u64, burst: u64) -> bool
@@ -189,8 +181,8 @@ fn caveat_holds(s: &[u8], caveat: Caveat, body: &[u8], asked: Asked, tid: &[u8])
     ensures { λ r. ⌜ r ≡ caveatHeld (now (s .entry)) caveat (now (body .entry)) asked (now (tid .entry)) ⌝ }
 {
     match caveat {
-        Caveat::Exp { n } => exp_holds(asked.time, asked.skew, n),
-        Caveat::Nbf { n } => nbf_holds(asked.time, asked.skew, n),
+        Caveat::Exp { n } => within_skew(asked.time, n, asked.skew),
+        Caveat::Nbf { n } => within_skew(n, asked.time, asked.skew),
         Caveat::Aud { from, to } => {
             let audience = asked.audience;
             audience_is(body, audience, basis::part(s, from, to))

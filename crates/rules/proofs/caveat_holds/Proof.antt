@@ -14,24 +14,23 @@ use Rattle.basis.proofs.part.Reads as part-reads
 use Rattle.basis.proofs.same.Reads as same-reads
 use Rattle.rules.proofs.audience_is.Reads as audience-is-reads
 use Rattle.rules.proofs.digest_is.Reads as digest-is-reads
-use Rattle.rules.proofs.exp_holds.Reads as exp-holds-reads
 use Rattle.rules.proofs.fits.Reads as fits-reads
 use Rattle.rules.proofs.method_in.Reads as method-in-reads
-use Rattle.rules.proofs.nbf_holds.Reads as nbf-holds-reads
+use Rattle.rules.proofs.within_skew.Reads as within-skew-reads
 use Rattle.rules.proofs.peer_agrees.Reads as peer-agrees-reads
 use Rattle.rules.proofs.rate_holds.Reads as rate-holds-reads
 
 enum-known-caveat : tie.Need-enum-known-caveat
 enum-known-caveat c = search needs
 
-exp-holds-requires : tie.Need-exp-holds-requires
-exp-holds-requires c κs = search needs
+within-skew-requires : tie.Need-within-skew-requires
+within-skew-requires c κs = search needs
 
 enum-known-caveat-2 : tie.Need-enum-known-caveat-2
 enum-known-caveat-2 c = search needs
 
-nbf-holds-requires : tie.Need-nbf-holds-requires
-nbf-holds-requires c κs = search needs
+within-skew-requires-2 : tie.Need-within-skew-requires-2
+within-skew-requires-2 c κs = search needs
 
 enum-known-caveat-3 : tie.Need-enum-known-caveat-3
 enum-known-caveat-3 c = search needs
@@ -108,11 +107,11 @@ enum-told c = search needs
 
 returns-2 : tie.Need-returns-2
 unfolding caveatHeld amnesiaHeld
-returns-2 c = rw (c .before .before .caveat .given .1) (c .exp-holds .ensures)
+returns-2 c = rw (c .before .before .caveat .given .1) (c .within-skew .ensures)
 
 returns-3 : tie.Need-returns-3
 unfolding caveatHeld amnesiaHeld
-returns-3 c = rw (c .before .before .caveat2 .given .1) (c .nbf-holds .ensures)
+returns-3 c = rw (c .before .before .caveat2 .given .1) (c .within-skew2 .ensures)
 
 returns-4 : tie.Need-returns-4
 unfolding caveatHeld amnesiaHeld
@@ -159,9 +158,9 @@ caveat-holds-spec =
     tie.close
     (tie.spec
     enum-known-caveat
-    exp-holds-requires
+    within-skew-requires
     enum-known-caveat-2
-    nbf-holds-requires
+    within-skew-requires-2
     enum-known-caveat-3
     part-requires
     audience-is-requires
