@@ -8,7 +8,6 @@ use native.Mathlib.Omega.{arith}
 use lib.Dec.{eqb}
 use Rattle.basis.specs.Basis.{pick, IsBytes}
 use Rattle.basis.specs.Same.{sameOf}
-use Rattle.basis.proofs.OneAnswer.{told}
 use Rattle.basis.proofs.Sameness.{same-equal, equal-same}
 use Rattle.caveat.specs.Caveats.{Caveat}
 use Rattle.token.specs.Tokens.{Token}
@@ -25,7 +24,7 @@ use Rattle.requests.proofs.RequestRead.{request-read}
 use Rattle.rules.specs.Holding.{failing, caveatHolds}
 use Rattle.rules.specs.declared.Asked.{Asked}
 use Rattle.rules.proofs.RuleLaws.{AskedOf}
-use Rattle.bhinorpa.specs.Verifying.{textThen, requestThen, verifyOf}
+use Rattle.judging.specs.Verifying.{textThen, requestThen, verifyOf}
 use Rattle.bhinorpa.specs.Allowed.{Canonical, chainTag, keyFor, methodHolds, pathHolds, bytesHold, Check, check, firstFailing, caveatChecks, scopeChecks, checksOf, EachHolds, Allowed}
 use Rattle.bhinorpa.specs.Verdicts.{TableOf, RequestOf, TextVerdict, too-long, no-base64, unreadable, judged, Verdict, table-bad, ctx-bad, of-text}
 use Rattle.bhinorpa.proofs.Judged.{failing-some}
@@ -182,7 +181,3 @@ module _ (table request : List ℕ) (rows : List Row) (t : TableOf table rows) (
     λ e. allowed-by rows r text (verifyOf table request text) e (moved (TextVerdict rows r text) (verify-text rows (t .good) r (h .good) text)),
     λ a. moved (λ n. n ≡ 0) (verify-canonical rows (t .good) r (h .good) text (a .token) (a .canonical) ∙ all-pass rows r text a),
   )
-
--- one answer for each table, request and text
-pub verify-one-answer : (table request text : List ℕ) {n m : ℕ} → n ≡ verifyOf table request text → m ≡ verifyOf table request text → n ≡ m
-verify-one-answer table request text x y = told x y

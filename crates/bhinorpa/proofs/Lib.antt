@@ -1,8 +1,4 @@
-pub mod Walking
-pub mod Tags
-pub mod Keyed
-pub mod Found
-pub mod Decoding
 pub mod Judged
 pub mod Texts
 pub mod Demands
+pub mod OneAnswer

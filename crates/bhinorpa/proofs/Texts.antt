@@ -26,11 +26,11 @@ use Rattle.tables.specs.Tables.{Row, encodeTable, GoodTable}
 use Rattle.requests.specs.Requests.{Request}
 use Rattle.rules.specs.declared.Asked.{Asked}
 use Rattle.rules.proofs.RuleLaws.{AskedOf}
-use Rattle.bhinorpa.specs.Verifying.{tokenThen, bytesThen, decodedThen, textThen}
+use Rattle.judging.specs.Verifying.{tokenThen, bytesThen, decodedThen, textThen}
 use Rattle.bhinorpa.specs.Allowed.{Canonical, firstFailing, checksOf}
 use Rattle.bhinorpa.specs.Verdicts.{TextVerdict, too-long, no-base64, unreadable, judged}
 use Rattle.bhinorpa.proofs.Judged.{token-law}
-use Rattle.bhinorpa.proofs.Decoding.{too-long as long-is}
+use Rattle.judging.proofs.Decoding.{too-long as long-is}
 
 -- 01: "At most 4,096 decoded bytes, so 5,462 characters", both ways
 tail-few : (k : ℕ) → k < 3 → tailLength k ≤ k + 1

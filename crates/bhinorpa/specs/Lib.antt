@@ -1,4 +1,2 @@
-pub mod Verifying
-pub mod Ready
 pub mod Allowed
 pub mod Verdicts

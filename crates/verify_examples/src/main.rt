@@ -47,7 +47,7 @@ fn print_name(number: u32) {
 
 fn show(label: &[u8], table: &[u8], request: &[u8], token: &[u8]) {
     io::write_all(STDOUT_FILENO, label);
-    let number = bhinorpa::verify(table, request, token);
+    let number = bhinorpa::bhinorpa_verify(table, request, token);
     if number != 0 {
         io::write_all(STDOUT_FILENO, b"deny ");
     }

@@ -1,14 +1,14 @@
 use Prim.Native.Nat.{ℕ}
 use mathlib.Core.Path.{_∙_}
 use lib.ListN.{length-replicate}
-use Rattle.bhinorpa.proofs.Decoding.{bytes-fit, bytes-lent, lent-short, too-long, not-text, no-room, whole-text}
+use Rattle.judging.proofs.Decoding.{bytes-fit, bytes-lent, lent-short, too-long, not-text, no-room, whole-text}
 use borrow.Author.Needs.{needs}
-use Rattle.bhinorpa.proofs.judge_text.Statement.{statement}
-use Rattle.bhinorpa.proofs.judge_text.Tie as tie
-use Rattle.bhinorpa.proofs.judge_text.Reads as reads
-use Rattle.bhinorpa.proofs.judge_text.Lts as lts
+use Rattle.judging.proofs.judge_text.Statement.{statement}
+use Rattle.judging.proofs.judge_text.Tie as tie
+use Rattle.judging.proofs.judge_text.Reads as reads
+use Rattle.judging.proofs.judge_text.Lts as lts
 use Rattle.base64url.proofs.decode.Reads as decode-reads
-use Rattle.bhinorpa.proofs.judge_bytes.Reads as judge-bytes-reads
+use Rattle.judging.proofs.judge_bytes.Reads as judge-bytes-reads
 
 returns : tie.Need-returns
 returns c = too-long (c .before .before .before .before .before .args .table .now) (c .before .before .before .before .before .args .text .now) (c .before .before .before .before .before .args .body .now) (c .before .before .before .before .before .args .asked) (c .before .before .before .before .before .args .tenant .now) (c .if1 .taken)

@@ -1,10 +1,10 @@
 use mathlib.Core.Path.{sym, _∙_}
-use Rattle.bhinorpa.specs.Verifying.{scopeAt}
+use Rattle.judging.specs.Verifying.{scopeAt}
 use borrow.Author.Needs.{needs}
-use Rattle.bhinorpa.proofs.scope_at.Statement.{statement}
-use Rattle.bhinorpa.proofs.scope_at.Tie as tie
-use Rattle.bhinorpa.proofs.scope_at.Reads as reads
-use Rattle.bhinorpa.proofs.scope_at.Lts as lts
+use Rattle.judging.proofs.scope_at.Statement.{statement}
+use Rattle.judging.proofs.scope_at.Tie as tie
+use Rattle.judging.proofs.scope_at.Reads as reads
+use Rattle.judging.proofs.scope_at.Lts as lts
 use Rattle.basis.proofs.part.Reads as part-reads
 use Rattle.rules.proofs.scope_answer.Reads as scope-answer-reads
 use Rattle.scope.proofs.read_scope.Reads as read-scope-reads

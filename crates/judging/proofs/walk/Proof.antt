@@ -1,13 +1,13 @@
 use mathlib.Core.Path.{refl, sym, _∙_}
 use borrow.Author.Needs.{needs}
-use Rattle.bhinorpa.proofs.Walking.{Walking, walked-all, walk-bad, walk-range, walk-one, piece-next}
-use Rattle.bhinorpa.proofs.walk.Statement.{statement}
-use Rattle.bhinorpa.proofs.walk.Tie as tie
-use Rattle.bhinorpa.proofs.walk.Reads as reads
-use Rattle.bhinorpa.proofs.walk.Lts as lts
+use Rattle.judging.proofs.Walking.{Walking, walked-all, walk-bad, walk-range, walk-one, piece-next}
+use Rattle.judging.proofs.walk.Statement.{statement}
+use Rattle.judging.proofs.walk.Tie as tie
+use Rattle.judging.proofs.walk.Reads as reads
+use Rattle.judging.proofs.walk.Lts as lts
 use Rattle.basis.proofs.least.Reads as least-reads
 use Rattle.basis.proofs.part.Reads as part-reads
-use Rattle.bhinorpa.proofs.so_far.Reads as so-far-reads
+use Rattle.judging.proofs.so_far.Reads as so-far-reads
 use Rattle.caveat.proofs.read_caveat.Reads as read-caveat-reads
 use Rattle.chain.proofs.next_link.Reads as next-link-reads
 

@@ -1,12 +1,12 @@
 use mathlib.Core.Path.{sym, _∙_}
-use Rattle.bhinorpa.proofs.Found.{unreadable, read-ready, with-its-key, no-key}
+use Rattle.judging.proofs.Found.{unreadable, read-ready, with-its-key, no-key}
 use borrow.Author.Needs.{needs}
-use Rattle.bhinorpa.proofs.judge_bytes.Statement.{statement}
-use Rattle.bhinorpa.proofs.judge_bytes.Tie as tie
-use Rattle.bhinorpa.proofs.judge_bytes.Reads as reads
-use Rattle.bhinorpa.proofs.judge_bytes.Lts as lts
+use Rattle.judging.proofs.judge_bytes.Statement.{statement}
+use Rattle.judging.proofs.judge_bytes.Tie as tie
+use Rattle.judging.proofs.judge_bytes.Reads as reads
+use Rattle.judging.proofs.judge_bytes.Lts as lts
 use Rattle.basis.proofs.part.Reads as part-reads
-use Rattle.bhinorpa.proofs.with_key.Reads as with-key-reads
+use Rattle.judging.proofs.with_key.Reads as with-key-reads
 use Rattle.tables.proofs.find.Reads as find-reads
 use Rattle.token.proofs.read_token.Reads as read-token-reads
 

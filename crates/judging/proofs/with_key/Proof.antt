@@ -1,16 +1,16 @@
 use mathlib.Core.Path.{sym, _∙_}
-use Rattle.bhinorpa.proofs.Keyed.{first-ready, other-tag, other-tenant, scope-fails, scope-holds}
+use Rattle.judging.proofs.Keyed.{first-ready, other-tag, other-tenant, scope-fails, scope-holds}
 use borrow.Author.Needs.{needs}
-use Rattle.bhinorpa.proofs.with_key.Statement.{statement}
-use Rattle.bhinorpa.proofs.with_key.Tie as tie
-use Rattle.bhinorpa.proofs.with_key.Reads as reads
-use Rattle.bhinorpa.proofs.with_key.Lts as lts
+use Rattle.judging.proofs.with_key.Statement.{statement}
+use Rattle.judging.proofs.with_key.Tie as tie
+use Rattle.judging.proofs.with_key.Reads as reads
+use Rattle.judging.proofs.with_key.Lts as lts
 use Rattle.basis.proofs.part.Reads as part-reads
 use Rattle.basis.proofs.run.Reads as run-reads
 use Rattle.basis.proofs.same.Reads as same-reads
-use Rattle.bhinorpa.proofs.same_tag.Reads as same-tag-reads
-use Rattle.bhinorpa.proofs.scope_at.Reads as scope-at-reads
-use Rattle.bhinorpa.proofs.walk.Reads as walk-reads
+use Rattle.judging.proofs.same_tag.Reads as same-tag-reads
+use Rattle.judging.proofs.scope_at.Reads as scope-at-reads
+use Rattle.judging.proofs.walk.Reads as walk-reads
 use Rattle.chain.proofs.first_link.Reads as first-link-reads
 
 part-requires : tie.Need-part-requires

@@ -2,11 +2,11 @@ use mathlib.Core.Logic.{⊎-elim, inl, inr}
 use Prim.Native.Nat.{_-_}
 use native.Mathlib.Omega.{arith}
 use borrow.Author.Needs.{needs}
-use Rattle.bhinorpa.proofs.Tags.{Compared, compared-none, compared-one, compared-all, other-size}
-use Rattle.bhinorpa.proofs.same_tag.Statement.{statement}
-use Rattle.bhinorpa.proofs.same_tag.Tie as tie
-use Rattle.bhinorpa.proofs.same_tag.Reads as reads
-use Rattle.bhinorpa.proofs.same_tag.Lts as lts
+use Rattle.judging.proofs.Tags.{Compared, compared-none, compared-one, compared-all, other-size}
+use Rattle.judging.proofs.same_tag.Statement.{statement}
+use Rattle.judging.proofs.same_tag.Tie as tie
+use Rattle.judging.proofs.same_tag.Reads as reads
+use Rattle.judging.proofs.same_tag.Lts as lts
 
 abbrev Inv-loop : tie.InvT-loop
 Inv-loop tag link same₀ i₀ same i = Compared link tag i same

@@ -13,8 +13,8 @@ use Rattle.caveat.specs.declared.CaveatParts.the-variants.{Of, Bad}
 use Rattle.token.proofs.Lent.{end-fits}
 use Rattle.rules.specs.Judging.{caveatJudged}
 use Rattle.rules.specs.declared.Asked.{Asked}
-use Rattle.bhinorpa.specs.Verifying.{soFar, walkEnds, afterCaveat, walkedOf}
-use Rattle.bhinorpa.specs.Ready.{Walkable}
+use Rattle.judging.specs.Verifying.{soFar, walkEnds, afterCaveat, walkedOf}
+use Rattle.judging.specs.Ready.{Walkable}
 
 -- so many caveats are left at p, behind this link and this answer
 pub record Walking (s key body : List ℕ) (q : Asked) (tid : List ℕ) (from count : ℕ) (first : List ℕ) (p k : ℕ) (link : List ℕ) (answer : ℕ) : Type 0 where

@@ -26,8 +26,8 @@ use Rattle.requests.specs.declared.RequestParts.{RequestParts}
 use Rattle.requests.specs.declared.RequestParts.the-variants.{Of as RequestIs, Bad as NoRequest}
 use Rattle.rules.specs.Judging.{scopeJudged, caveatJudged}
 use Rattle.rules.specs.declared.Asked.{Asked}
-use Rattle.bhinorpa.specs.declared.Walked.{Walked}
-use Rattle.bhinorpa.specs.declared.TokenAt.{TokenAt}
+use Rattle.judging.specs.declared.Walked.{Walked}
+use Rattle.judging.specs.declared.TokenAt.{TokenAt}
 
 -- the first answer that is not 0
 unfoldable pub soFar : ℕ → ℕ → ℕ

@@ -16,7 +16,7 @@ use Rattle.base64url.specs.declared.Decoded.{Decoded}
 use Rattle.base64url.specs.declared.Decoded.the-variants.{Bytes, Bad, Short}
 use Rattle.base64url.proofs.TextLaws.{whole-length}
 use Rattle.rules.specs.declared.Asked.{Asked}
-use Rattle.bhinorpa.specs.Verifying.{bytesThen, decodedThen, textThen}
+use Rattle.judging.specs.Verifying.{bytesThen, decodedThen, textThen}
 
 -- bytes were told: the text is whole, and the room holds them
 pub record Told (text : List ℕ) (n room : ℕ) : Type 0 where

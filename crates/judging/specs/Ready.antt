@@ -4,7 +4,7 @@ use mathlib.Core.List.{List}
 use Prim.Native.Nat.{ℕ, _≤_}
 use lib.ListN.{length}
 use Rattle.basis.specs.Basis.{between}
-use Rattle.bhinorpa.specs.declared.TokenAt.{TokenAt}
+use Rattle.judging.specs.declared.TokenAt.{TokenAt}
 
 pub record Walkable (key s : List ℕ) : Type 0 where
   pub key-long : length key ≡ 32

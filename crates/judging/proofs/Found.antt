@@ -10,9 +10,9 @@ use Rattle.token.specs.Reading.{tokenOf}
 use Rattle.token.specs.declared.TokenParts.the-variants.{Of, Bad}
 use Rattle.token.proofs.TokenRead.{token-read}
 use Rattle.rules.specs.declared.Asked.{Asked}
-use Rattle.bhinorpa.specs.Verifying.{keyThen, keyFound, tokenThen, bytesThen}
-use Rattle.bhinorpa.specs.Ready.{Ready}
-use Rattle.bhinorpa.specs.declared.TokenAt.{TokenAt}
+use Rattle.judging.specs.Verifying.{keyThen, keyFound, tokenThen, bytesThen}
+use Rattle.judging.specs.Ready.{Ready}
+use Rattle.judging.specs.declared.TokenAt.{TokenAt}
 
 abbrev pub placed : ℕ → ℕ → ℕ → ℕ → ℕ → ℕ → ℕ → ℕ → ℕ → TokenAt
 placed count from scope scope-end tag kid kid-end tid tid-end =

@@ -10,10 +10,10 @@ use Rattle.basis.specs.Basis.{between}
 use Rattle.basis.specs.Same.{sameOf}
 use Rattle.chain.specs.Chain.{firstLink, FirstOf}
 use Rattle.rules.specs.declared.Asked.{Asked}
-use Rattle.bhinorpa.specs.Verifying.{soFar, walkedOf, scopeAt, tenantThen, tagThen, linkFirst, keyThen}
-use Rattle.bhinorpa.specs.Ready.{Ready}
-use Rattle.bhinorpa.specs.declared.Walked.{Walked}
-use Rattle.bhinorpa.specs.declared.TokenAt.{TokenAt}
+use Rattle.judging.specs.Verifying.{soFar, walkedOf, scopeAt, tenantThen, tagThen, linkFirst, keyThen}
+use Rattle.judging.specs.Ready.{Ready}
+use Rattle.judging.specs.declared.Walked.{Walked}
+use Rattle.judging.specs.declared.TokenAt.{TokenAt}
 
 pub first-ready : (key s : List ℕ) (p : TokenAt) (tid kid scope : List ℕ) → Ready key s p → tid ≡ between s (p .tid) (p .«tid_end»)
     → kid ≡ between s (p .kid) (p .«kid_end») → scope ≡ between s (p .scope) (p .«scope_end») → FirstOf key tid kid scope

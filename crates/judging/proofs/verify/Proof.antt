@@ -1,12 +1,12 @@
 use mathlib.Core.Path.{sym, _∙_}
-use Rattle.bhinorpa.specs.Verifying.{verifyOf, requestThen}
+use Rattle.judging.specs.Verifying.{verifyOf, requestThen}
 use borrow.Author.Needs.{needs}
-use Rattle.bhinorpa.proofs.verify.Statement.{statement}
-use Rattle.bhinorpa.proofs.verify.Tie as tie
-use Rattle.bhinorpa.proofs.verify.Reads as reads
-use Rattle.bhinorpa.proofs.verify.Lts as lts
+use Rattle.judging.proofs.verify.Statement.{statement}
+use Rattle.judging.proofs.verify.Tie as tie
+use Rattle.judging.proofs.verify.Reads as reads
+use Rattle.judging.proofs.verify.Lts as lts
 use Rattle.basis.proofs.part.Reads as part-reads
-use Rattle.bhinorpa.proofs.judge_text.Reads as judge-text-reads
+use Rattle.judging.proofs.judge_text.Reads as judge-text-reads
 use Rattle.requests.proofs.read_request.Reads as read-request-reads
 use Rattle.tables.proofs.table_ok.Reads as table-ok-reads
 

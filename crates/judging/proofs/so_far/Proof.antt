@@ -1,10 +1,10 @@
 use borrow.Author.Tests.{eq-eqb, ne-eqb}
-use Rattle.bhinorpa.specs.Verifying.{soFar}
+use Rattle.judging.specs.Verifying.{soFar}
 use borrow.Author.Needs.{needs}
-use Rattle.bhinorpa.proofs.so_far.Statement.{statement}
-use Rattle.bhinorpa.proofs.so_far.Tie as tie
-use Rattle.bhinorpa.proofs.so_far.Reads as reads
-use Rattle.bhinorpa.proofs.so_far.Lts as lts
+use Rattle.judging.proofs.so_far.Statement.{statement}
+use Rattle.judging.proofs.so_far.Tie as tie
+use Rattle.judging.proofs.so_far.Reads as reads
+use Rattle.judging.proofs.so_far.Lts as lts
 use Rattle.rules.proofs.caveat_answer.Reads as caveat-answer-reads
 
 caveat-answer-requires : tie.Need-caveat-answer-requires
