@@ -1,0 +1,44 @@
+use Rattle.issuing.proofs.Handings.{text-handed, none-handed, count-fits}
+use borrow.Author.Needs.{needs}
+use Rattle.issuing.proofs.write_text.Statement.{statement}
+use Rattle.issuing.proofs.write_text.Tie as tie
+use Rattle.issuing.proofs.write_text.Reads as reads
+use Rattle.issuing.proofs.write_text.Lts as lts
+use Rattle.base64url.proofs.encode.Reads as encode-reads
+
+encode-requires : tie.Need-encode-requires
+encode-requires c κs = search needs
+
+enum-told : tie.Need-enum-told
+enum-told c = search needs
+
+enum-known-n : tie.Need-enum-known-n
+enum-known-n c = search needs
+
+cast-t8 : tie.Need-cast-t8
+cast-t8 c = record { fits = count-fits _ _ (c .before .before .before .before .before .encode .ensures) (c .before .before .before .before .before .before .before .before .before .pre) (c .before .n .given .1) }
+
+same-length : tie.Need-same-length
+same-length c = search needs
+
+returns : tie.Need-returns
+returns c = none-handed _ _ (c .before .before .before .before .encode .ensures) (c .enum-told .given .1)
+
+same-length-2 : tie.Need-same-length-2
+same-length-2 c = search needs
+
+returns-2 : tie.Need-returns-2
+returns-2 c = text-handed _ _ (c .before .before .before .before .before .encode .ensures) (c .before .n .given .1)
+
+pub write-text-spec : {M : Type 1} → statement M
+write-text-spec =
+    tie.close
+    (tie.spec
+    encode-requires
+    enum-told
+    enum-known-n
+    cast-t8
+    same-length
+    returns
+    same-length-2
+    returns-2)
