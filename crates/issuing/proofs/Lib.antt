@@ -1,3 +1,6 @@
 pub mod Sizes
 pub mod Handings
 pub mod Fresh
+pub mod Linking
+pub mod Growing
+pub mod Narrowed

@@ -18,21 +18,23 @@ abbrev pub placed : ℕ → ℕ → ℕ → ℕ → ℕ → ℕ → ℕ → ℕ 
 placed count from scope scope-end tag kid kid-end tid tid-end =
     record { count = count; from = from; scope = scope; «scope_end» = scope-end; tag = tag; kid = kid; «kid_end» = kid-end; tid = tid; «tid_end» = tid-end }
 
+-- what a token that was read keeps
+module _ (s : List ℕ) {count from to scope scope-end tag kid kid-end tid tid-end : ℕ} (e : tokenOf s ≡ Of count from to scope scope-end tag kid kid-end tid tid-end) where
+  pub read-ready : IsBytes s → length s ≤ 4096 → {key : List ℕ} → length key ≡ 32 → Ready key s (placed count from scope scope-end tag kid kid-end tid tid-end)
+  read-ready b l {key} k =
+      let t = token-read s b e in
+      record {
+        walkable = record { key-long = k; short = l };
+        tid-short = rw (t .holds .back .tid-held) (t .good .good-tid .most);
+        kid-short = rw (t .holds .back .kid-held) (t .good .good-kid .most);
+      }
+
 module _ (table s body : List ℕ) (q : Asked) (tenant : List ℕ) where
   pub unreadable : {kind at : ℕ} → tokenOf s ≡ Bad kind at → kind ≡ bytesThen table s body q tenant
   unfolding bytesThen tokenThen
   unreadable e = rw e
 
   module _ {count from to scope scope-end tag kid kid-end tid tid-end : ℕ} (e : tokenOf s ≡ Of count from to scope scope-end tag kid kid-end tid tid-end) where
-    pub read-ready : IsBytes s → length s ≤ 4096 → {key : List ℕ} → length key ≡ 32 → Ready key s (placed count from scope scope-end tag kid kid-end tid tid-end)
-    read-ready b l {key} k =
-        let t = token-read s b e in
-        record {
-          walkable = record { key-long = k; short = l };
-          tid-short = rw (t .holds .back .tid-held) (t .good .good-tid .most);
-          kid-short = rw (t .holds .back .kid-held) (t .good .good-kid .most);
-        }
-
     module _ {t k key : List ℕ} (et : t ≡ between s tid tid-end) (ek : k ≡ between s kid kid-end) (ef : key ≡ findFrom 64 table t k 0) where
       found : keyFound key s (placed count from scope scope-end tag kid kid-end tid tid-end) body q tenant ≡ bytesThen table s body q tenant
       unfolding bytesThen tokenThen

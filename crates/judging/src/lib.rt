@@ -101,7 +101,7 @@ fn scope_at(s: &[u8], at: usize, body: &[u8], asked: Asked) -> u32
 }
 
 // Looks at all 32 bytes whether or not they differ, so that its time tells nothing of the tag.
-fn same_tag(link: [u8; 32], tag: &[u8]) -> bool
+pub fn same_tag(link: [u8; 32], tag: &[u8]) -> bool
     ensures { λ r. ⌜ r ≡ sameOf link (now (tag .entry)) ⌝ }
 {
     if tag.len() != 32 {

@@ -29,7 +29,7 @@ find-requires : tie.Need-find-requires
 find-requires c κs = search needs
 
 with-key-requires : tie.Need-with-key-requires
-with-key-requires c κs = read-ready (c .before .before .before .before .before .before .before .before .before .before .before .before .args .table .now) (c .before .before .before .before .before .before .before .before .before .before .before .before .args .s .now) (c .before .before .before .before .before .before .before .before .before .before .before .before .args .body .now) (c .before .before .before .before .before .before .before .before .before .before .before .before .args .asked) (c .before .before .before .before .before .before .before .before .before .before .before .before .args .tenant .now) (sym (c .before .before .before .before .before .before .before .read-token .ensures) ∙ c .before .before .before .before .before .count .given .1) (λ i. c .before .before .before .before .before .before .before .before .before .before .shared-slice-known2 .given i .fits) (c .before .before .before .before .before .before .before .before .before .before .before .before .pre) (c .if1 .taken)
+with-key-requires c κs = read-ready (c .before .before .before .before .before .before .before .before .before .before .before .before .args .s .now) (sym (c .before .before .before .before .before .before .before .read-token .ensures) ∙ c .before .before .before .before .before .count .given .1) (λ i. c .before .before .before .before .before .before .before .before .before .before .shared-slice-known2 .given i .fits) (c .before .before .before .before .before .before .before .before .before .before .before .before .pre) (c .if1 .taken)
 
 returns : tie.Need-returns
 returns c = c .with-key .ensures ∙ with-its-key (c .before .before .before .before .before .before .before .before .before .before .before .before .before .args .table .now) (c .before .before .before .before .before .before .before .before .before .before .before .before .before .args .s .now) (c .before .before .before .before .before .before .before .before .before .before .before .before .before .args .body .now) (c .before .before .before .before .before .before .before .before .before .before .before .before .before .args .asked) (c .before .before .before .before .before .before .before .before .before .before .before .before .before .args .tenant .now) (sym (c .before .before .before .before .before .before .before .before .read-token .ensures) ∙ c .before .before .before .before .before .before .count .given .1) (c .before .before .before .before .part .ensures) (c .before .before .before .part2 .ensures) (c .before .before .find .ensures) (c .before .if1 .taken)
