@@ -29,20 +29,9 @@ use Rattle.rules.proofs.RuleLaws.{AskedOf}
 use Rattle.judging.specs.Verifying.{tokenThen, bytesThen, decodedThen, textThen}
 use Rattle.bhinorpa.specs.Allowed.{Canonical, firstFailing, checksOf}
 use Rattle.bhinorpa.specs.Verdicts.{TextVerdict, too-long, no-base64, unreadable, judged}
+use Rattle.issuing.proofs.Sizes.{short-text}
 use Rattle.bhinorpa.proofs.Judged.{token-law}
 use Rattle.judging.proofs.Decoding.{too-long as long-is}
-
--- 01: "At most 4,096 decoded bytes, so 5,462 characters", both ways
-tail-few : (k : ℕ) → k < 3 → tailLength k ≤ k + 1
-tail-few k h = by (eqb k 0) refl (eqb k 1) refl
-  where
-    by : (u : Bool) → eqb k 0 ≡ u → (v : Bool) → eqb k 1 ≡ v → pick u 0 (pick v 2 3) ≤ k + 1
-    by true p v q = omega arith
-    by false p true q = omega (arith, eqb-true k 1 q)
-    by false p false q = omega (arith, eqb-false k 0 p, eqb-false k 1 q)
-
-pub short-text : (b : List ℕ) → length b ≤ 4096 → length (base64url b) ≤ 5462
-short-text b h = rw (text-length b) (omega (arith, tail-few (length b % 3) (omega arith)))
 
 few-bytes : (l n : ℕ) → n ≡ byteLength l → l ≤ 5462 → n ≤ 4096
 few-bytes l n e h = omega arith

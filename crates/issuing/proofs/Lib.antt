@@ -4,3 +4,4 @@ pub mod Fresh
 pub mod Linking
 pub mod Growing
 pub mod Narrowed
+pub mod OneAnswer
