@@ -90,7 +90,7 @@ scope-first r x rest = by (methodHolds r x) (pathHolds r x) (bytesHold r x)
     by false b c = refl
 
 -- a caveat alone, as the front of what is lent
-front-held : (s x rest : List ℕ) → s ≡ x ++ rest → between s 0 (length x) ≡ x
+pub front-held : (s x rest : List ℕ) → s ≡ x ++ rest → between s 0 (length x) ≡ x
 front-held s x rest e = let n : length x - 0 ≡ length x = omega arith in rw (n, e) (take-at x rest (length x) refl)
 
 module _ (body tid key : List ℕ) (r : Request) (q : Asked) (h : AskedOf body r q) where

@@ -1,4 +1,6 @@
 pub mod Judged
 pub mod Texts
 pub mod Demands
+pub mod AreBytes
+pub mod Parents
 pub mod OneAnswer
