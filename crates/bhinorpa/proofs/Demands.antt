@@ -25,7 +25,7 @@ use Rattle.rules.specs.Holding.{failing, caveatHolds}
 use Rattle.rules.specs.declared.Asked.{Asked}
 use Rattle.rules.proofs.RuleLaws.{AskedOf}
 use Rattle.judging.specs.Verifying.{textThen, requestThen, verifyOf}
-use Rattle.bhinorpa.specs.Allowed.{Canonical, chainTag, keyFor, methodHolds, pathHolds, bytesHold, Check, check, firstFailing, caveatChecks, scopeChecks, checksOf, EachHolds, Allowed}
+use Rattle.bhinorpa.specs.Allowed.{Canonical, chainTag, keyFor, methodHolds, pathHolds, bytesHold, Check, check, firstFailing, caveatChecks, scopeChecks, checksOf, EachHolds, AllHold, Allowed}
 use Rattle.bhinorpa.specs.Verdicts.{TableOf, RequestOf, TextVerdict, too-long, no-base64, unreadable, judged, Verdict, table-bad, ctx-bad, of-text}
 use Rattle.bhinorpa.proofs.Judged.{failing-some}
 use Rattle.bhinorpa.proofs.Texts.{text-verdict, canonical-law}
@@ -129,9 +129,9 @@ unfolding firstFailing caveatChecks EachHolds
 each-passes r tid [] h = refl
 each-passes r tid (c ∷ cs) h = rw (h .0) (each-passes r tid cs (h .1))
 
-all-passed : (rows : List Row) (r : Request) (text : List ℕ) (t : Token) → Canonical text t → firstFailing (checksOf rows r t) ≡ 0 → Allowed rows r text
+pub all-passed : (rows : List Row) (r : Request) (t : Token) → firstFailing (checksOf rows r t) ≡ 0 → AllHold rows r t
 unfolding firstFailing checksOf scopeChecks
-all-passed rows r text t c e =
+all-passed rows r t e =
     let x = t .scope in
     let p7 = passed (hasRow rows (t .tid) (t .kid)) 7 _ refl e in
     let p8 = passed (sameOf (chainTag (keyFor rows t) t) (t .tag)) 8 _ refl (p7 .1) in
@@ -140,8 +140,6 @@ all-passed rows r text t c e =
     let p11 = passed (pathHolds r x) 11 _ refl (p10 .1) in
     let p12 = passed (bytesHold r x) 12 _ refl (p11 .1) in
     record {
-      token = t;
-      canonical = c;
       known = p7 .0;
       tagged = same-equal _ _ (p8 .0);
       own-tenant = same-equal _ _ (p9 .0);
@@ -151,25 +149,25 @@ all-passed rows r text t c e =
       caveats-hold = each-passed r (t .tid) (t .caveats) (p12 .1);
     }
 
-all-pass : (rows : List Row) (r : Request) (text : List ℕ) (a : Allowed rows r text) → firstFailing (checksOf rows r (a .token)) ≡ 0
+pub all-pass : (rows : List Row) (r : Request) (t : Token) → AllHold rows r t → firstFailing (checksOf rows r t) ≡ 0
 unfolding firstFailing checksOf scopeChecks
-all-pass rows r text a =
+all-pass rows r t a =
     rw (
       a .known,
-      equal-same (chainTag (keyFor rows (a .token)) (a .token)) (a .token .tag) (a .tagged),
-      equal-same (a .token .tid) (r .tenant) (a .own-tenant),
+      equal-same (chainTag (keyFor rows t) t) (t .tag) (a .tagged),
+      equal-same (t .tid) (r .tenant) (a .own-tenant),
       a .method-holds,
       a .path-holds,
       a .bytes-hold,
     )
-    (each-passes r (a .token .tid) (a .token .caveats) (a .caveats-hold))
+    (each-passes r (t .tid) (t .caveats) (a .caveats-hold))
 
 -- a verdict of 0 is of a token whose checks all hold
 allowed-by : (rows : List Row) (r : Request) (text : List ℕ) (n : ℕ) → n ≡ 0 → TextVerdict rows r text n → Allowed rows r text
 allowed-by rows r text n z (too-long h e) = let w : ⊥ = omega (arith, z, e) in elim w [ ]
 allowed-by rows r text n z (no-base64 l h e) = let w : ⊥ = omega (arith, z, e) in elim w [ ]
 allowed-by rows r text n z (unreadable l s e at f k h) = let w : ⊥ = omega (arith, z, k .0) in elim w [ ]
-allowed-by rows r text n z (judged t c e) = all-passed rows r text t c (sym e ∙ z)
+allowed-by rows r text n z (judged t c e) = record { token = t; canonical = c; all-hold = all-passed rows r t (sym e ∙ z) }
 
 -- demand 2, first half: with a well-formed table and request, verify answers 0 exactly where the token is allowed
 module _ (table request : List ℕ) (rows : List Row) (t : TableOf table rows) (r : Request) (h : RequestOf request r) (text : List ℕ) where
@@ -179,5 +177,5 @@ module _ (table request : List ℕ) (rows : List Row) (t : TableOf table rows) (
   pub allowed-exactly : (verifyOf table request text ≡ 0 → Allowed rows r text) × (Allowed rows r text → verifyOf table request text ≡ 0)
   allowed-exactly = (
     λ e. allowed-by rows r text (verifyOf table request text) e (moved (TextVerdict rows r text) (verify-text rows (t .good) r (h .good) text)),
-    λ a. moved (λ n. n ≡ 0) (verify-canonical rows (t .good) r (h .good) text (a .token) (a .canonical) ∙ all-pass rows r text a),
+    λ a. moved (λ n. n ≡ 0) (verify-canonical rows (t .good) r (h .good) text (a .token) (a .canonical) ∙ all-pass rows r (a .token) (a .all-hold)),
   )

@@ -3,4 +3,5 @@ pub mod Texts
 pub mod Demands
 pub mod AreBytes
 pub mod Parents
+pub mod Handouts
 pub mod OneAnswer

@@ -61,7 +61,7 @@ narrowTree rows t caveat =
     (pick (sameOf (chainTag (keyFor rows t) t) (t .tag)) (addTree (keyFor rows t) (chainTag (keyFor rows t) t) t caveat (caveatOf caveat)) (refused 8)) (refused 7)
 
 module _ (key s : List ℕ) (t : Token) (g : GoodToken t) (caveat : List ℕ) {count from to scope scope-end tag kid kid-end tid tid-end : ℕ}
-  (w : Holds s t count from to scope scope-end tag kid kid-end tid tid-end) where
+    (w : Holds s t count from to scope scope-end tag kid kid-end tid tid-end) where
   grown-law : (link : List ℕ) → grown key link s (placed count from scope scope-end tag kid kid-end tid tid-end) (between s from to) caveat ≡ growTree key link t caveat
   unfolding grown
   grown-law link = rw (← w .front .counted-so, w .front .caveats-held, w .front .scope-held, w .back .kid-held, w .back .tid-held)

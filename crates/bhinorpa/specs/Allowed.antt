@@ -78,13 +78,17 @@ unfoldable pub EachHolds : Request → List ℕ → List Caveat → Type 0
 EachHolds r tid [] = Unit {0}
 EachHolds r tid (c ∷ cs) = (caveatHolds r tid c ≡ true) × EachHolds r tid cs
 
+-- its key is known, the chain gives its tag, and tenant, scope and every caveat hold
+pub record AllHold (rows : List Row) (r : Request) (t : Token) : Type 0 where
+  pub known : hasRow rows (t .tid) (t .kid) ≡ true
+  pub tagged : chainTag (keyFor rows t) t ≡ t .tag
+  pub own-tenant : t .tid ≡ r .tenant
+  pub method-holds : methodHolds r (t .scope) ≡ true
+  pub path-holds : pathHolds r (t .scope) ≡ true
+  pub bytes-hold : bytesHold r (t .scope) ≡ true
+  pub caveats-hold : EachHolds r (t .tid) (t .caveats)
+
 pub record Allowed (rows : List Row) (r : Request) (text : List ℕ) : Type 0 where
   pub token : Token
   pub canonical : Canonical text token
-  pub known : hasRow rows (token .tid) (token .kid) ≡ true
-  pub tagged : chainTag (keyFor rows token) token ≡ token .tag
-  pub own-tenant : token .tid ≡ r .tenant
-  pub method-holds : methodHolds r (token .scope) ≡ true
-  pub path-holds : pathHolds r (token .scope) ≡ true
-  pub bytes-hold : bytesHold r (token .scope) ≡ true
-  pub caveats-hold : EachHolds r (token .tid) (token .caveats)
+  pub all-hold : AllHold rows r token

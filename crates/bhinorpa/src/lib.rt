@@ -31,7 +31,12 @@ pub extern "C" fn bhinorpa_issue(
 
 // Writes the text of a token with one caveat more into the room.
 #[no_mangle]
-pub extern "C" fn bhinorpa_narrow(table: &[u8], token: &[u8], caveat: &[u8], room: &mut [u8]) -> Outcome
+pub extern "C" fn bhinorpa_narrow(
+    table: &[u8],
+    token: &[u8],
+    caveat: &[u8],
+    room: &mut [u8],
+) -> Outcome
     ensures { λ r. ⌜ Handing (narrowOf (now (table .entry)) (now (token .entry)) (now (caveat .entry))) (now (room .entry)) r (now (room .exit)) ⌝ }
 {
     issuing::narrow(table, token, caveat, room)

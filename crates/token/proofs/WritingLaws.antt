@@ -23,7 +23,7 @@ pub fresh-written : (x : Scope) (tag kid tid : List ℕ) → freshBytes (encodeS
 unfolding encodeCaveats
 fresh-written x tag kid tid = refl
 
-caveats-behind : (cs ds : List Caveat) → encodeCaveats (cs ++ ds) ≡ encodeCaveats cs ++ encodeCaveats ds
+pub caveats-behind : (cs ds : List Caveat) → encodeCaveats (cs ++ ds) ≡ encodeCaveats cs ++ encodeCaveats ds
 unfolding encodeCaveats
 caveats-behind [] ds = refl
 caveats-behind (c ∷ cs) ds = ap (λ (t : List ℕ). encodeCaveat c ++ t) (caveats-behind cs ds) ∙ sym (append-assoc (encodeCaveat c) (encodeCaveats cs) (encodeCaveats ds))
