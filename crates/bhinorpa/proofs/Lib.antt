@@ -4,4 +4,5 @@ pub mod Demands
 pub mod AreBytes
 pub mod Parents
 pub mod Handouts
+pub mod Cases
 pub mod OneAnswer

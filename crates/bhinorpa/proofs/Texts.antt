@@ -36,7 +36,7 @@ use Rattle.judging.proofs.Decoding.{too-long as long-is}
 few-bytes : (l n : ℕ) → n ≡ byteLength l → l ≤ 5462 → n ≤ 4096
 few-bytes l n e h = omega arith
 
-bytes-few : (text : List ℕ) {n : ℕ} → judgedOf text ≡ Whole n → length text ≤ 5462 → n ≤ 4096
+pub bytes-few : (text : List ℕ) {n : ℕ} → judgedOf text ≡ Whole n → length text ≤ 5462 → n ≤ 4096
 bytes-few text {n} e h = few-bytes (length text) n (sound text e .count) h
 
 -- a text that reads well is that of one token
