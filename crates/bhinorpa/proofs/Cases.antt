@@ -140,7 +140,7 @@ caveat-whole caveat b part next e n P k =
     let z : drop next caveat ≡ [] = drop-of-length-le caveat {i = next} (omega (arith, n)) in
     k (x .tree) (record { good = x .good; caveat-is = x .there ∙ ap (λ (t : List ℕ). encodeCaveat (x .tree) ++ t) z ∙ append-nil (encodeCaveat (x .tree)) })
 
-sized-is : (b : List ℕ) → sized b ≡ pick (ltb 4096 (length b)) (refused 35) (handed (base64url b))
+pub sized-is : (b : List ℕ) → sized b ≡ pick (ltb 4096 (length b)) (refused 35) (handed (base64url b))
 unfolding sized
 sized-is b = refl
 

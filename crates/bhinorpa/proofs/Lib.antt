@@ -5,4 +5,6 @@ pub mod AreBytes
 pub mod Parents
 pub mod Handouts
 pub mod Cases
+pub mod DemandsWriting
+pub mod DemandsNarrowing
 pub mod OneAnswer
