@@ -57,7 +57,7 @@ pub data IssueIs (table tid kid scope : List ℕ) (h : Handed) : Type 0 where
       → h ≡ handed (base64url (encodeToken (freshToken rows x tid kid))) → IssueIs table tid kid scope h
 
 -- with a scope that was read
-with-scope : (rows : List Row) → GoodTable rows → (tid kid : List ℕ) (x : Scope)
+pub with-scope : (rows : List Row) → GoodTable rows → (tid kid : List ℕ) (x : Scope)
     → issueWith (findFrom 64 (encodeTable rows) tid kid 0) tid kid (encodeScope x)
     ≡ pick (hasRow rows tid kid) (handed (base64url (encodeToken (freshToken rows x tid kid)))) (refused 7)
 unfolding issueWith tagOf chainOf

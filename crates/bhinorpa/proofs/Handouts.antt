@@ -84,7 +84,7 @@ fresh-canonical rows gr x gx bx tid kid bt bk h =
     }
 
 -- the bytes of one caveat more, and its link
-caveats-one-more : (cs : List Caveat) (c : Caveat) → caveatBytes (cs ++ (c ∷ [])) ≡ caveatBytes cs ++ (encodeCaveat c ∷ [])
+pub caveats-one-more : (cs : List Caveat) (c : Caveat) → caveatBytes (cs ++ (c ∷ [])) ≡ caveatBytes cs ++ (encodeCaveat c ∷ [])
 unfolding caveatBytes
 caveats-one-more [] c = refl
 caveats-one-more (d ∷ cs) c = ap (λ (t : List (List ℕ)). encodeCaveat d ∷ t) (caveats-one-more cs c)

@@ -7,4 +7,5 @@ pub mod Handouts
 pub mod Cases
 pub mod DemandsWriting
 pub mod DemandsNarrowing
+pub mod DemandsRebuilt
 pub mod OneAnswer
