@@ -8,7 +8,9 @@ use crate::scope::{self, Scope};
 
 const KEYS: [Key; 6] =
     [required("c"), required("r"), required("s"), required("v"), required("kid"), required("tid")];
-const CAVEATS: u64 = 64;
+
+/// How many caveats a token may have.
+pub const CAVEATS: u64 = 64;
 const TAG: u64 = 32;
 const EDITION: u64 = 1;
 

@@ -6,6 +6,7 @@ use crate::cbor::PARSE_BOUNDS;
 use crate::chain::{official, same, Chain, Key, Mac};
 use crate::cursor::Span;
 use crate::rules::{self, Asked};
+use crate::table::Row;
 use crate::token::Whole;
 use crate::{request, table, token};
 
@@ -35,27 +36,53 @@ pub fn verify_with(mac: impl Mac, table: &[u8], request: &[u8], token: &[u8]) ->
 fn judge(mac: impl Mac, table: &[u8], request: &[u8], text: &[u8]) -> Result<(), u32> {
     let rows = table::read(table).ok_or(TABLE_BAD)?;
     let read = request::read(request).ok_or(CTX_BAD)?;
+    let genuine = genuine(mac, &rows, text)?;
+    let (bytes, whole) = (&genuine.bytes, &genuine.whole);
+    let tid = genuine.part(whole.token.tid);
+    if &request[read.tenant.0..read.tenant.1] != tid {
+        return Err(TENANT_MISMATCH);
+    }
+    let asked = Asked { request: &read, request_bytes: request, token_bytes: bytes, tid };
+    rules::scope(&asked, &whole.scope)?;
+    whole.caveats.iter().try_for_each(|caveat| rules::caveat(&asked, &caveat.demand))
+}
+
+/// A token that reads well and whose tag is the last link of its chain.
+pub(crate) struct Genuine<'k, M> {
+    pub bytes: Vec<u8>,
+    pub whole: Whole,
+    pub chain: Chain<'k, M>,
+}
+
+impl<M> Genuine<'_, M> {
+    pub fn part(&self, (from, to): Span) -> &[u8] {
+        &self.bytes[from..to]
+    }
+}
+
+/// What a text holds, judged up to its tag under the key that a good table has for it.
+pub(crate) fn genuine<'k, M: Mac>(mac: M, rows: &[Row<'k>], text: &[u8]) -> Result<Genuine<'k, M>, u32> {
     if text.len() > TEXT {
         return Err(PARSE_BOUNDS);
     }
     let bytes = base64url::decode(text).map_err(|_| PARSE_B64)?;
     let whole = token::read_whole(&bytes).map_err(|defect| defect.number)?;
     let part = |(from, to): Span| &bytes[from..to];
-    let (tid, kid) = (part(whole.token.tid), part(whole.token.kid));
-    let key = table::find(&rows, tid, kid).and_then(|key| key.try_into().ok()).ok_or(KID_UNKNOWN)?;
-    if !tagged(mac, key, &bytes, &whole) {
+    let key = key_under(rows, part(whole.token.tid), part(whole.token.kid))?;
+    let chain = chain_of(mac, key, &bytes, &whole);
+    if !same(chain.link(), part(whole.token.tag)) {
         return Err(MAC_MISMATCH);
     }
-    if &request[read.tenant.0..read.tenant.1] != tid {
-        return Err(TENANT_MISMATCH);
-    }
-    let asked = Asked { request: &read, request_bytes: request, token_bytes: &bytes, tid };
-    rules::scope(&asked, &whole.scope)?;
-    whole.caveats.iter().try_for_each(|caveat| rules::caveat(&asked, &caveat.demand))
+    Ok(Genuine { bytes, whole, chain })
 }
 
-/// Whether the tag is the last link of the token's chain under this key.
-fn tagged(mac: impl Mac, key: &Key, bytes: &[u8], whole: &Whole) -> bool {
+/// The key that a good table has under both ids.
+pub(crate) fn key_under<'k>(rows: &[Row<'k>], tid: &[u8], kid: &[u8]) -> Result<&'k Key, u32> {
+    table::find(rows, tid, kid).and_then(|key| key.try_into().ok()).ok_or(KID_UNKNOWN)
+}
+
+/// The chain over the ids, the scope and the caveats of a token, whatever its tag is.
+fn chain_of<'k, M: Mac>(mac: M, key: &'k Key, bytes: &[u8], whole: &Whole) -> Chain<'k, M> {
     let part = |(from, to): Span| &bytes[from..to];
     let Whole { token, caveats, .. } = whole;
     let mut chain = Chain::new(mac, key, part(token.tid), part(token.kid), part(token.scope));
@@ -64,7 +91,7 @@ fn tagged(mac: impl Mac, key: &Key, bytes: &[u8], whole: &Whole) -> bool {
         chain.narrow(part((from, caveat.next)));
         from = caveat.next;
     }
-    same(chain.link(), part(token.tag))
+    chain
 }
 
 #[cfg(test)]
@@ -72,7 +99,6 @@ mod tests {
     use super::*;
     use crate::chain::tag;
     use crate::request::Fields;
-    use crate::table::Row;
 
     const KEY: &Key = b"whats the Elvish word for friend";
     const SCOPE: &[u8] = b"\xa1\x67methods\x81\x63GET";
