@@ -256,6 +256,6 @@ fn answered(result: &[u8], room: &mut [u8]) -> (u32, u64) {
 }
 
 /// What a room holds beforehand: no byte like its neighbours.
-fn pattern(length: usize) -> Vec<u8> {
+pub fn pattern(length: usize) -> Vec<u8> {
     (0..length).map(|i| (i * 151 + 89) as u8).collect()
 }

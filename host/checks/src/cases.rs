@@ -67,7 +67,7 @@ impl Case {
     }
 
     /// How many bytes the decoded token has, whatever its tag is.
-    fn length(&self) -> usize {
+    pub fn length(&self) -> usize {
         self.tree(&[0; 32]).laid().len()
     }
 

@@ -63,11 +63,17 @@ pub fn faulty(faults: &[Fault], seeded: &mut Seeded) -> (Triple, u32) {
     let broken = Broken { method: is(Fault::Method), path: is(Fault::Path), bytes: is(Fault::Bytes) };
     case.scope = fitting::scope(broken, &case.request, seeded);
     let caveat = if is(Fault::Caveat) { break_caveat(&mut case, seeded) } else { 0 };
-    let (token, reading) = token(&case, faults, seeded);
-    let triple = lay(case, &token, faults, seeded);
+    let (triple, reading) = laid_with(case, faults, seeded);
     let numbers = [1, 2, 5, 3, reading, 7, 8, 9, 10, 11, 12, caveat];
     let first = FAULTS.iter().position(|&fault| is(fault));
     (triple, first.map_or(0, |first| numbers[first]))
+}
+
+/// The case as it lies with those of these faults that are not of its scope and its caveats, and the number
+/// that goes with the one of reading.
+pub fn laid_with(case: Case, faults: &[Fault], seeded: &mut Seeded) -> (Triple, u32) {
+    let (token, reading) = token(&case, faults, seeded);
+    (lay(case, &token, faults, seeded), reading)
 }
 
 /// Puts a caveat that does not hold behind some that do and before some of which nothing is said, and
@@ -151,7 +157,7 @@ fn lay(mut case: Case, token: &[u8], faults: &[Fault], seeded: &mut Seeded) -> T
 }
 
 /// The rows with something wrong among them or behind them.
-fn bad_table(rows: &[Row], seeded: &mut Seeded) -> Vec<u8> {
+pub fn bad_table(rows: &[Row], seeded: &mut Seeded) -> Vec<u8> {
     let table = tables::laid(rows);
     let row = Row::new(b"~", b"k", seeded);
     let long = Row::new(b"zz", &[b'z'; 65], seeded);

@@ -2,12 +2,15 @@
 //! inputs made from them; what is done to these; and the proved functions beside the second program's.
 
 pub mod beside;
+pub mod calls;
 pub mod cases;
 pub mod damage;
 pub mod edits;
 pub mod faults;
 pub mod fitting;
 pub mod inputs;
+pub mod issuing;
+pub mod narrowing;
 mod parts;
 pub mod requests;
 pub mod samples;

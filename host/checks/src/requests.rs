@@ -3,6 +3,7 @@
 
 use second::request::{self, Rate};
 
+use crate::fitting;
 use crate::inputs;
 use crate::strings;
 use crate::Seeded;
@@ -114,4 +115,53 @@ fn edits(piece: &[u8]) -> Vec<Vec<u8>> {
         edits.extend(told.map(|number| number.to_le_bytes().to_vec()));
     }
     edits
+}
+
+/// A good request near this one, which says something else in one thing or a few.
+pub fn near(request: &Request, seeded: &mut Seeded) -> Request {
+    let mut near = request.clone();
+    for _ in 0..=seeded.below(3) {
+        let step = [1, 1, 2, 299, 300, 301, 1 << 16][seeded.below(7)];
+        match seeded.below(9) {
+            0 => near.now = near.now.saturating_add(step),
+            1 => near.now = near.now.saturating_sub(step),
+            2 => near.body_size = near.body_size.saturating_add(step),
+            3 => near.body_size = near.body_size.saturating_sub(step),
+            4 => near.skew = seeded.below(301) as u16,
+            5 => near.amnesia = !near.amnesia,
+            6 | 7 => change_part(&mut near, seeded),
+            _ => change_text(&mut near, seeded),
+        }
+    }
+    near
+}
+
+/// One of the parts that may be absent comes, goes or says something else.
+fn change_part(request: &mut Request, seeded: &mut Seeded) {
+    let other = flagged(31, seeded);
+    let gone = seeded.below(3) == 0;
+    match seeded.below(4) {
+        0 => {
+            let bit = 1 << seeded.below(32);
+            let changed = |peer| u32::to_be_bytes(u32::from_be_bytes(peer) ^ bit);
+            request.peer = request.peer.map_or(other.peer, |peer| (!gone).then(|| changed(peer)));
+        }
+        1 => request.digest = if gone { None } else { other.digest },
+        2 => {
+            let more = |number: u32| number.saturating_add(1);
+            let changed = |rate: Rate| Rate { per_s: more(rate.per_s), burst: more(rate.burst) };
+            request.rate = request.rate.map_or(other.rate, |rate| (!gone).then(|| changed(rate)));
+        }
+        _ => request.audience = if gone { None } else { other.audience },
+    }
+}
+
+/// The method, the path or the tenant is another one.
+fn change_text(request: &mut Request, seeded: &mut Seeded) {
+    match seeded.below(4) {
+        0 => request.method = fitting::other(&request.method, *b"XY", 16, seeded),
+        1 => request.tenant = fitting::other_name(&request.tenant, seeded),
+        2 if request.path.len() > 1 => request.path.truncate(1 + seeded.below(request.path.len())),
+        _ => request.path.resize((request.path.len() + 1).min(1024), b'/'),
+    }
 }
