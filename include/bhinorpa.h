@@ -2,13 +2,14 @@
  *
  * A byte range is a pointer and then a length. What C must keep, since nothing can check it here:
  *   - a pointer is never null, also for a length of 0;
- *   - a range is readable in its whole length while the call runs;
- *   - no other thread writes to it meanwhile.
+ *   - a range is readable in its whole length while the call runs, and a room is writable too;
+ *   - a room shares no byte with another range of the same call;
+ *   - no other thread writes to any of them meanwhile, and none reads the room.
  * Nothing else is asked: any bytes of any length may come in, and every call returns.
  *
- * Link target/staticlib/libbhinorpa.a for bhinorpa_verify and target/staticlib/libkeyed_hash.a for
- * bhinorpa_keyed_hash (tools/archives makes both), and the C library, of which the hash needs memcpy and
- * memset alone.
+ * Link target/staticlib/libbhinorpa.a for bhinorpa_verify, bhinorpa_issue and bhinorpa_narrow, and
+ * target/staticlib/libkeyed_hash.a for bhinorpa_keyed_hash (tools/archives makes both), and the C library,
+ * of which the hash needs memcpy and memset alone.
  */
 #ifndef BHINORPA_H
 #define BHINORPA_H
@@ -24,14 +25,14 @@ extern "C" {
  * name that stands for the number in logs. */
 enum bhinorpa_answer {
     BHINORPA_ALLOW = 0,                  /* allow: the token is good and everything in it holds */
-    BHINORPA_DONE = 0,                   /* done, of a function that does not judge */
+    BHINORPA_DONE = 0,                   /* done, of a function that does not judge: what was asked for is there */
     BHINORPA_TABLE_BAD = 1,              /* table.bad: the key table is malformed, in any of its rows */
     BHINORPA_CTX_BAD = 2,                /* ctx.bad: the request is malformed */
     BHINORPA_PARSE_B64 = 3,              /* parse.b64: the text is not Base64URL without padding */
-    BHINORPA_PARSE_CBOR = 4,             /* parse.cbor: the token is malformed */
-    BHINORPA_PARSE_BOUNDS = 5,           /* parse.bounds: the text or something in the token is too long or large */
+    BHINORPA_PARSE_CBOR = 4,             /* parse.cbor: the token, or issue's scope, is malformed */
+    BHINORPA_PARSE_BOUNDS = 5,           /* parse.bounds: the text or something in token or scope is too long or large */
     BHINORPA_SCHEMA_UNKNOWN_FIELD = 6,   /* schema.unknown_field: an unknown key, kind of caveat or version */
-    BHINORPA_KID_UNKNOWN = 7,            /* kid.unknown: the table has no key under the token's tid and kid */
+    BHINORPA_KID_UNKNOWN = 7,            /* kid.unknown: the table has no key under this tid and kid */
     BHINORPA_MAC_MISMATCH = 8,           /* mac.mismatch: the tag is not that of this token under that key */
     BHINORPA_TENANT_MISMATCH = 9,        /* tenant.mismatch: the request is another tenant's */
     BHINORPA_CAVEAT_METHOD = 10,         /* caveat.method: scope or caveat does not list the method */
@@ -46,6 +47,12 @@ enum bhinorpa_answer {
     BHINORPA_CAVEAT_AMNESIA = 19,        /* caveat.amnesia: the host is not in amnesia mode */
     BHINORPA_CAVEAT_POLICY_DIGEST = 20,  /* caveat.policy_digest: no policy digest, or another one */
     BHINORPA_CAVEAT_CUSTOM_UNKNOWN = 21, /* caveat.custom.unknown: a custom caveat, which never holds */
+    BHINORPA_CAV_CBOR = 31,              /* cav.cbor: narrow's caveat is malformed, or not one caveat alone */
+    BHINORPA_CAV_BOUNDS = 32,            /* cav.bounds: something in narrow's caveat is too long or large */
+    BHINORPA_CAV_UNKNOWN = 33,           /* cav.unknown: an unknown key or kind of caveat */
+    BHINORPA_CAV_FULL = 34,              /* cav.full: the token has 64 caveats already */
+    BHINORPA_SIZE_FULL = 35,             /* size.full: with the caveat the token would have over 4,096 bytes */
+    BHINORPA_OUT_SHORT = 36,             /* out.short: the room is shorter than the text */
     BHINORPA_HASH_BAD = 37               /* hash.bad: the message is over 8,192 bytes, or the key is not 32 bytes */
 };
 
@@ -68,6 +75,54 @@ enum bhinorpa_answer {
  * request says, and a rate is compared with the one that the request states, not counted. */
 uint32_t bhinorpa_verify(const uint8_t *table, size_t table_length, const uint8_t *request,
                          size_t request_length, const uint8_t *token, size_t token_length);
+
+struct bhinorpa_written {
+    uint32_t answer; /* BHINORPA_DONE, or why nothing was written */
+    uint32_t length; /* how many characters of text stand at the front of the room; 0 unless done */
+};
+
+/* Makes a token that has no caveats yet, and writes its text to the front of the room.
+ *
+ *   table    the key table, as for bhinorpa_verify.
+ *   tid, kid the ids under which the table has the key that tags the token; they go into the token.
+ *   scope    the bytes of one scope in deterministic CBOR: a map of prefix (may be absent), methods and
+ *            max_bytes (may be absent), in that order, and nothing behind it.
+ *   room     where the text goes: Base64URL, without an ending zero or newline. 1,003 bytes are enough for
+ *            every fresh token, 5,462 for every text of this library; a room that is exactly as long as the
+ *            text is enough, and one that is longer does no harm.
+ *
+ * Done: answer is BHINORPA_DONE, length the text's, and the bytes of the room behind the text are as they
+ * were. Otherwise length is 0, the whole room is as it was, and answer is the first of: BHINORPA_TABLE_BAD;
+ * the scope's first defect, 4, 5 or 6 by what it is, bytes left over being 4; BHINORPA_KID_UNKNOWN, also for
+ * a tid or kid that no table may have; BHINORPA_OUT_SHORT.
+ *
+ * The same arguments give the same text each time. Whoever may call this with a table makes tokens for
+ * every key in it, and the text is all that a caller of the module needs to show: hand it out with care. */
+struct bhinorpa_written bhinorpa_issue(const uint8_t *table, size_t table_length, const uint8_t *tid,
+                                       size_t tid_length, const uint8_t *kid, size_t kid_length,
+                                       const uint8_t *scope, size_t scope_length, uint8_t *room,
+                                       size_t room_length);
+
+/* Makes a child of a token, with one caveat more behind those that it has, and writes the child's text to
+ * the front of the room. The child allows exactly the requests that the token allows and for which the caveat
+ * holds. That needs the key: a token's holder cannot narrow it without the table.
+ *
+ *   table    the key table, as for bhinorpa_verify.
+ *   token    the text of the token to narrow, as for bhinorpa_verify. It stays good; nothing recalls it.
+ *   caveat   the bytes of one caveat in deterministic CBOR: a map of t and v, in that order, and nothing
+ *            behind it.
+ *   room     where the child's text goes, as for bhinorpa_issue. 5,462 bytes are always enough. It must not
+ *            be the bytes that the token lies in: no child is written over its parent.
+ *
+ * Done, and what is not written otherwise: as for bhinorpa_issue. The reasons, of which the first is the
+ * answer: BHINORPA_TABLE_BAD; a text of over 5,462 characters, BHINORPA_PARSE_BOUNDS; BHINORPA_PARSE_B64;
+ * the token's first defect, 4, 5 or 6 by what it is; BHINORPA_KID_UNKNOWN; BHINORPA_MAC_MISMATCH; the
+ * caveat's first defect, BHINORPA_CAV_CBOR, BHINORPA_CAV_BOUNDS or BHINORPA_CAV_UNKNOWN by what it is, no
+ * bytes and bytes left over being BHINORPA_CAV_CBOR; BHINORPA_CAV_FULL; BHINORPA_SIZE_FULL;
+ * BHINORPA_OUT_SHORT. No request is asked for, so a token that has expired is narrowed like any other. */
+struct bhinorpa_written bhinorpa_narrow(const uint8_t *table, size_t table_length, const uint8_t *token,
+                                        size_t token_length, const uint8_t *caveat, size_t caveat_length,
+                                        uint8_t *room, size_t room_length);
 
 struct bhinorpa_hashed {
     uint32_t answer;   /* BHINORPA_DONE or BHINORPA_HASH_BAD */
