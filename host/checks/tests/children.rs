@@ -89,8 +89,11 @@ fn a_child_allows_exactly_what_its_parent_allows_and_its_caveat_holds_for() {
             assert_eq!(answer == 0, parent == 0 && broken == 0, "{asked:02x?} and request {request:02x?}");
             // The caveat comes behind all that the parent is judged by, so its reasons stay the first.
             assert_eq!(answer, broken, "{asked:02x?} and request {request:02x?}");
-            let count = if parent != 0 { &mut refused } else if broken != 0 { &mut narrowed } else { &mut allowed };
-            *count += 1;
+            match (parent, broken) {
+                (0, 0) => allowed += 1,
+                (0, _) => narrowed += 1,
+                _ => refused += 1,
+            }
         }
     }
     println!("{children} children: {allowed} allowed, {narrowed} by the parent alone, {refused} by neither");

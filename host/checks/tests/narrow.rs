@@ -144,6 +144,28 @@ fn parents_of_nearly_4096_bytes_and_caveats_of_every_kind() {
 }
 
 #[test]
+fn parents_of_nearly_4096_bytes_about_the_counts_at_which_something_changes() {
+    let mut seeded = Seeded(212);
+    let mut calls = Calls::default();
+    let exp = caveat_of("exp", Node::number(7));
+    assert_eq!(exp.laid().len(), 10);
+    let counts = [22, 23, 24, 63, 64].into_iter();
+    for (count, free) in counts.flat_map(|count| (0..=14).map(move |free| (count, free))) {
+        // All but the last caveat, and then one that leaves so many bytes free.
+        let front = fitting(count - 1, &mut seeded);
+        let parent = child(&front, &custom_of(left(&front) - free, &mut seeded));
+        assert_eq!((parent.caveats.len(), parent.length()), (count, BYTES - free));
+        let taken = if count == 23 { 11 } else { 10 };
+        match (count, free >= taken) {
+            (64, _) => calls.expect(&call(&parent, &exp), TEXT, 34),
+            (_, true) => calls.hand_out(&call(&parent, &exp), &child(&parent, &exp).laid().text, &mut seeded),
+            _ => calls.expect(&call(&parent, &exp), [0, TEXT, 2 * TEXT][free % 3], 35),
+        }
+    }
+    calls.met(4 * 5 * 5, &[0, 34, 35, 36], 15);
+}
+
+#[test]
 fn long_caveats_are_too_long_for_the_token_and_never_for_the_hash() {
     let mut seeded = Seeded(206);
     let mut calls = Calls::default();

@@ -51,8 +51,8 @@ mod tests {
         // The tag is what b3sum says of "ron-auth/v1", a zero byte, "init", both ids and the scope.
         let tag = b"\xd4\xb9\x00\xbc\x76\x7e\x4c\xe6\x83\x64\x52\x1a\xc5\x74\xb5\x31\
             \x0a\xcf\x3b\x81\x0b\x5f\x15\x0f\x22\x30\x49\x9f\xea\x93\xbd\x87";
-        let parts: [&[u8]; 5] =
-            [b"\xa6\x61c\x80\x61r", SCOPE, b"\x61s\x58\x20", tag, b"\x61v\x01\x63kid\x6bkid-2025-10\x63tid\x68tenant-1"];
+        let behind = b"\x61v\x01\x63kid\x6bkid-2025-10\x63tid\x68tenant-1";
+        let parts: [&[u8]; 5] = [b"\xa6\x61c\x80\x61r", SCOPE, b"\x61s\x58\x20", tag, behind];
         let text = base64url::encode(&parts.concat());
         let mut room = vec![b'.'; text.len() + 3];
         let written = issue(&rows(), b"tenant-1", b"kid-2025-10", SCOPE, &mut room);
