@@ -30,7 +30,7 @@ enum bhinorpa_answer {
     BHINORPA_CTX_BAD = 2,                /* ctx.bad: the request is malformed */
     BHINORPA_PARSE_B64 = 3,              /* parse.b64: the text is not Base64URL without padding */
     BHINORPA_PARSE_CBOR = 4,             /* parse.cbor: the token, or issue's scope, is malformed */
-    BHINORPA_PARSE_BOUNDS = 5,           /* parse.bounds: something in text or scope, or the text, is too long or large */
+    BHINORPA_PARSE_BOUNDS = 5,           /* parse.bounds: text, or a part of token or scope, too long or large */
     BHINORPA_SCHEMA_UNKNOWN_FIELD = 6,   /* schema.unknown_field: an unknown key, kind of caveat or version */
     BHINORPA_KID_UNKNOWN = 7,            /* kid.unknown: the table has no key under this tid and kid */
     BHINORPA_MAC_MISMATCH = 8,           /* mac.mismatch: the tag is not that of this token under that key */
