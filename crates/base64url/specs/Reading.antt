@@ -2,8 +2,8 @@
 -- else unused bits, at the last character), or the bytes that it stands for.
 use mathlib.Core.Path.{_≡_}
 use mathlib.Core.List.{List, [], _∷_}
-use Prim.Native.Nat.{ℕ, suc, _+_, _-_, _*_, _/_, _%_, _≤_}
-use lib.ListN.{length}
+use Prim.Native.Nat.{ℕ, suc, _+_, _-_, _*_, _/_, _%_, _≤_, _<_}
+use lib.ListN.{length, getD}
 use lib.Dec.{ltb, leb, eqb}
 use Rattle.bytes.specs.Bytes.{indexOf}
 use Rattle.basis.specs.Basis.{pick, over}
@@ -16,6 +16,10 @@ use Rattle.base64url.specs.declared.Decoded.the-variants.{Bytes, Bad, Sh
 -- the six bits of a letter; 64 for a character that is none
 unfoldable pub digitOf : ℕ → ℕ
 digitOf c = indexOf c alphabet
+
+-- a table of them, by character
+abbrev pub IsDigits : List ℕ → Type 0
+IsDigits d = (c : ℕ) → c < 256 → getD d c 0 ≡ digitOf c
 
 -- the index of the first character that is no letter; the text's length where all are
 unfoldable pub badAt : List ℕ → ℕ

@@ -6,9 +6,10 @@ ghost use lib.ListN.{length};
 ghost use Rattle.basis.specs.Basis.{over};
 ghost use Rattle.base64url.specs.Base64url.{base64url, letterOf, tailLength, textLength};
 ghost use Rattle.base64url.specs.Writing.{Encoding};
-ghost use Rattle.base64url.specs.Reading.{digitOf, badAt, judgedOf, bytesOf, Fillable, Filled};
+ghost use Rattle.base64url.specs.Reading.{IsDigits, digitOf, badAt, judgedOf, bytesOf, Fillable, Filled};
 
-// The six bits of each character, and 64 for one that is no letter.
+// The six bits of each character, and 64 for one that is no letter. The compiler lays the table out anew
+// where it is named, so that loops are lent it.
 const DIGITS: [u8; 256] = *b"\x40\x40\x40\x40\x40\x40\x40\x40\x40\x40\x40\x40\x40\x40\x40\x40\
                              \x40\x40\x40\x40\x40\x40\x40\x40\x40\x40\x40\x40\x40\x40\x40\x40\
                              \x40\x40\x40\x40\x40\x40\x40\x40\x40\x40\x40\x40\x40\x3e\x40\x40\
@@ -45,18 +46,20 @@ pub enum Encoded {
     NoRoom,
 }
 
-fn digit(c: u8) -> u8
+fn digit(digits: &[u8; 256], c: u8) -> u8
+    requires { ⌜ IsDigits (now digits) ⌝ }
     ensures { λ r. ⌜ r ≡ digitOf c ⌝ }
 {
-    DIGITS[c as usize]
+    digits[c as usize]
 }
 
-fn bad_at(text: &[u8]) -> usize
+fn bad_at(digits: &[u8; 256], text: &[u8]) -> usize
+    requires { ⌜ IsDigits (now digits) ⌝ }
     ensures { λ r. ⌜ r ≡ badAt (now (text .entry)) ⌝ }
 {
     let mut i: usize = 0;
     while i < text.len() {
-        if 64 <= digit(text[i]) {
+        if 64 <= digit(digits, text[i]) {
             return i;
         }
         i += 1;
@@ -67,8 +70,9 @@ fn bad_at(text: &[u8]) -> usize
 pub fn judge(text: &[u8]) -> Judged
     ensures { λ r. ⌜ r ≡ judgedOf (now (text .entry)) ⌝ }
 {
+    let digits = &DIGITS;
     let n = text.len();
-    let at = bad_at(text);
+    let at = bad_at(digits, text);
     if at < n {
         return Judged::Fault { at };
     }
@@ -80,7 +84,7 @@ pub fn judge(text: &[u8]) -> Judged
     if left == 0 {
         return Judged::Whole { n: whole };
     }
-    let last = digit(text[n - 1]);
+    let last = digit(digits, text[n - 1]);
     if left == 2 {
         if last % 16 != 0 {
             return Judged::Fault { at: n - 1 };
@@ -94,37 +98,37 @@ pub fn judge(text: &[u8]) -> Judged
 }
 
 // What is left of a text behind its groups of four letters.
-fn fill_rest(text: &[u8], room: &mut [u8])
-    requires { ⌜ Fillable (now text) (now room) × (length (now text) < 4) ⌝ }
+fn fill_rest(digits: &[u8; 256], text: &[u8], room: &mut [u8])
+    requires { ⌜ Fillable (now text) (now room) × (length (now text) < 4) × IsDigits (now digits) ⌝ }
     ensures { λ _. ⌜ now (room .exit) ≡ over (bytesOf (now (text .entry))) (now (room .entry)) ⌝ }
 {
     if text.len() < 2 {
         return;
     }
-    let b = digit(text[1]);
-    room[0] = digit(text[0]) * 4 + b / 16;
+    let b = digit(digits, text[1]);
+    room[0] = digit(digits, text[0]) * 4 + b / 16;
     if text.len() < 3 {
         return;
     }
-    room[1] = b % 16 * 16 + digit(text[2]) / 4;
+    room[1] = b % 16 * 16 + digit(digits, text[2]) / 4;
 }
 
-fn fill(text: &[u8], room: &mut [u8])
-    requires { ⌜ Fillable (now text) (now room) ⌝ }
+fn fill(digits: &[u8; 256], text: &[u8], room: &mut [u8])
+    requires { ⌜ Fillable (now text) (now room) × IsDigits (now digits) ⌝ }
     ensures { λ _. ⌜ now (room .exit) ≡ over (bytesOf (now (text .entry))) (now (room .entry)) ⌝ }
 {
     let mut i: usize = 0;
     let mut j: usize = 0;
     while 4 <= text.len() - j {
-        let b = digit(text[j + 1]);
-        let c = digit(text[j + 2]);
-        room[i] = digit(text[j]) * 4 + b / 16;
+        let b = digit(digits, text[j + 1]);
+        let c = digit(digits, text[j + 2]);
+        room[i] = digit(digits, text[j]) * 4 + b / 16;
         room[i + 1] = b % 16 * 16 + c / 4;
-        room[i + 2] = c % 4 * 64 + digit(text[j + 3]);
+        room[i + 2] = c % 4 * 64 + digit(digits, text[j + 3]);
         i += 3;
         j += 4;
     }
-    fill_rest(&text[j..], &mut room[i..]);
+    fill_rest(digits, &text[j..], &mut room[i..]);
 }
 
 // The bytes of a text at the front of the room, the rest of which stays.
@@ -137,7 +141,7 @@ pub fn decode(text: &[u8], room: &mut [u8]) -> Decoded
             if room.len() < n {
                 return Decoded::Short;
             }
-            fill(text, room);
+            fill(&DIGITS, text, room);
             Decoded::Bytes { n }
         }
     }

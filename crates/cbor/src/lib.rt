@@ -2,7 +2,7 @@
 // A reader takes a slice of any length and a place in it; a defect carries document 01's number and
 // the place of the item at fault.
 ghost use mathlib.Core.Path.{_≡_};
-ghost use Prim.Native.Nat.{_≤_};
+ghost use Prim.Native.Nat.{_<_, _≤_};
 ghost use lib.ListN.{length};
 ghost use Rattle.cbor.specs.Heads.{numberOf, widthOf, readHead};
 ghost use Rattle.cbor.specs.Counts.{readCount};
@@ -40,25 +40,6 @@ pub enum Count {
     Of { n: u64, next: usize },
     Bad { kind: u32, at: usize },
 }
-
-// The kind of each character: 4 a hex digit, 3 a letter A-Z, 2 another character of a name, 1 another
-// printable one, 0 none of these.
-const KINDS: [u8; 256] = *b"\x00\x00\x00\x00\x00\x00\x00\x00\x00\x00\x00\x00\x00\x00\x00\x00\
-                            \x00\x00\x00\x00\x00\x00\x00\x00\x00\x00\x00\x00\x00\x00\x00\x00\
-                            \x00\x01\x01\x01\x01\x01\x01\x01\x01\x01\x01\x01\x01\x02\x02\x01\
-                            \x04\x04\x04\x04\x04\x04\x04\x04\x04\x04\x01\x01\x01\x01\x01\x01\
-                            \x01\x03\x03\x03\x03\x03\x03\x03\x03\x03\x03\x03\x03\x03\x03\x03\
-                            \x03\x03\x03\x03\x03\x03\x03\x03\x03\x03\x03\x01\x01\x01\x01\x02\
-                            \x01\x04\x04\x04\x04\x04\x04\x02\x02\x02\x02\x02\x02\x02\x02\x02\
-                            \x02\x02\x02\x02\x02\x02\x02\x02\x02\x02\x02\x01\x01\x01\x01\x00\
-                            \x00\x00\x00\x00\x00\x00\x00\x00\x00\x00\x00\x00\x00\x00\x00\x00\
-                            \x00\x00\x00\x00\x00\x00\x00\x00\x00\x00\x00\x00\x00\x00\x00\x00\
-                            \x00\x00\x00\x00\x00\x00\x00\x00\x00\x00\x00\x00\x00\x00\x00\x00\
-                            \x00\x00\x00\x00\x00\x00\x00\x00\x00\x00\x00\x00\x00\x00\x00\x00\
-                            \x00\x00\x00\x00\x00\x00\x00\x00\x00\x00\x00\x00\x00\x00\x00\x00\
-                            \x00\x00\x00\x00\x00\x00\x00\x00\x00\x00\x00\x00\x00\x00\x00\x00\
-                            \x00\x00\x00\x00\x00\x00\x00\x00\x00\x00\x00\x00\x00\x00\x00\x00\
-                            \x00\x00\x00\x00\x00\x00\x00\x00\x00\x00\x00\x00\x00\x00\x00\x00";
 
 pub fn width_of(low: u8) -> Width
     ensures { λ r. ⌜ r ≡ widthOf low ⌝ }
@@ -124,10 +105,67 @@ pub fn read_head(s: &[u8], at: usize) -> Head
     }
 }
 
+// The kind of a character before "A".
+fn sign_kind(c: u8) -> u8
+    requires { ⌜ c < 65 ⌝ }
+    ensures { λ r. ⌜ r ≡ kindOf c ⌝ }
+{
+    if c < 0x21 {
+        return 0;
+    }
+    if c < b'-' {
+        return 1;
+    }
+    if c < b'/' {
+        return 2;
+    }
+    if c < b'0' {
+        return 1;
+    }
+    if c < 0x3a {
+        return 4;
+    }
+    1
+}
+
+// The kind of a character before "a".
+fn upper_kind(c: u8) -> u8
+    requires { ⌜ c < 97 ⌝ }
+    ensures { λ r. ⌜ r ≡ kindOf c ⌝ }
+{
+    if c < b'A' {
+        return sign_kind(c);
+    }
+    if c < 0x5b {
+        return 3;
+    }
+    if c < b'_' {
+        return 1;
+    }
+    if c == b'_' {
+        return 2;
+    }
+    1
+}
+
+// The kind of each character: 4 a hex digit, 3 a letter A-Z, 2 another character of a name, 1 another
+// printable one, 0 none of these. Tests and no table: for the kinds that a loop asks for, few of them are left.
 fn kind(c: u8) -> u8
     ensures { λ r. ⌜ r ≡ kindOf c ⌝ }
 {
-    KINDS[c as usize]
+    if c < b'a' {
+        return upper_kind(c);
+    }
+    if c < b'g' {
+        return 4;
+    }
+    if c < 0x7b {
+        return 2;
+    }
+    if c < 0x7f {
+        return 1;
+    }
+    0
 }
 
 // Whether every character has a kind from low to high.

@@ -9,10 +9,10 @@ use Rattle.base64url.proofs.bad_at.Lts as lts
 use Rattle.base64url.proofs.digit.Reads as digit-reads
 
 abbrev Inv-loop : tie.InvT-loop
-Inv-loop text i₀ i = Searched text i
+Inv-loop digits text i₀ i = Searched text i
 
 abbrev μ-loop : tie.MeasureT-loop
-μ-loop text i₀ i = length text - i
+μ-loop digits text i₀ i = length text - i
 
 loop-holds : tie.Need-loop-holds Inv-loop μ-loop
 loop-holds c = searched-none _
@@ -21,7 +21,7 @@ shared-slice-read-digit : tie.Need-shared-slice-read-digit Inv-loop μ-loop
 shared-slice-read-digit c = search needs
 
 digit-requires : tie.Need-digit-requires Inv-loop μ-loop
-digit-requires c κs = search needs
+digit-requires c κs = c .before .before .before .before .pre
 
 returns : tie.Need-returns Inv-loop μ-loop
 returns c = found _ _ (c .before .before .before .before .loop .inv) (c .before .before .before .loop-test .taken) (rw (c .before .digit .ensures) at (c .if1 .taken))

@@ -1,5 +1,6 @@
 use mathlib.Core.Path.{sym, _∙_}
 use Rattle.base64url.proofs.Decoding.{faulty, no-room, fillable, filled}
+use Rattle.base64url.proofs.Letters.{digits, table-is}
 use borrow.Author.Needs.{needs}
 use Rattle.base64url.proofs.decode.Statement.{statement}
 use Rattle.base64url.proofs.decode.Tie as tie
@@ -21,7 +22,8 @@ returns : tie.Need-returns
 returns c = no-room _ _ (sym (c .before .before .before .before .judge .ensures) ∙ c .before .before .n .given .1) (c .if1 .taken)
 
 fill-requires : tie.Need-fill-requires
-fill-requires c κs = fillable _ _ (sym (c .before .before .before .before .before .judge .ensures) ∙ c .before .before .before .n .given .1) (c .before .if1 .left)
+unfolding digits
+fill-requires c κs = (fillable _ _ (sym (c .before .before .before .before .before .before .judge .ensures) ∙ c .before .before .before .before .n .given .1) (c .before .before .if1 .left), table-is)
 
 returns-2 : tie.Need-returns-2
 returns-2 c = faulty _ _ (sym (c .before .before .before .judge .ensures) ∙ c .before .at .given .1)
@@ -30,7 +32,7 @@ same-length : tie.Need-same-length
 same-length c = search needs
 
 returns-3 : tie.Need-returns-3
-returns-3 c = filled _ _ (sym (c .before .before .before .before .before .before .before .before .judge .ensures) ∙ c .before .before .before .before .before .before .n .given .1) _ (c .before .before .before .before .if1 .left) (c .before .before .fill .ensures)
+returns-3 c = filled _ _ (sym (c .before .before .before .before .before .before .before .before .before .judge .ensures) ∙ c .before .before .before .before .before .before .before .n .given .1) _ (c .before .before .before .before .before .if1 .left) (c .before .before .fill .ensures)
 
 pub decode-spec : {M : Type 1} → statement M
 decode-spec =

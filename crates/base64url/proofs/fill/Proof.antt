@@ -12,13 +12,13 @@ use Rattle.base64url.proofs.digit.Reads as digit-reads
 use Rattle.base64url.proofs.fill_rest.Reads as fill-rest-reads
 
 abbrev Inv-loop : tie.InvT-loop
-Inv-loop text room₀ i₀ j₀ room i j = Sofar text room₀ room i j
+Inv-loop digits text room₀ i₀ j₀ room i j = Sofar text room₀ room i j
 
 abbrev μ-loop : tie.MeasureT-loop
-μ-loop text room₀ i₀ j₀ room i j = length text - j
+μ-loop digits text room₀ i₀ j₀ room i j = length text - j
 
 loop-holds : tie.Need-loop-holds Inv-loop μ-loop
-loop-holds c = sofar-none _ _ (c .before .before .pre)
+loop-holds c = sofar-none _ _ (c .before .before .pre .0)
 
 sub-loop : tie.Need-sub-loop Inv-loop μ-loop
 sub-loop c = c .loop .inv .inside
@@ -30,7 +30,7 @@ shared-slice-read-digit : tie.Need-shared-slice-read-digit Inv-loop μ-loop
 shared-slice-read-digit c = search needs
 
 digit-requires : tie.Need-digit-requires Inv-loop μ-loop
-digit-requires c κs = search needs
+digit-requires c κs = c .before .before .before .before .before .pre .1
 
 add-digit-2 : tie.Need-add-digit-2 Inv-loop μ-loop
 add-digit-2 c = search needs
@@ -39,13 +39,13 @@ shared-slice-read-digit-2 : tie.Need-shared-slice-read-digit-2 Inv-loop μ-loop
 shared-slice-read-digit-2 c = search needs
 
 digit-requires-2 : tie.Need-digit-requires-2 Inv-loop μ-loop
-digit-requires-2 c κs = search needs
+digit-requires-2 c κs = c .before .before .before .before .before .before .before .pre .1
 
 shared-slice-read-digit-3 : tie.Need-shared-slice-read-digit-3 Inv-loop μ-loop
 shared-slice-read-digit-3 c = search needs
 
 digit-requires-3 : tie.Need-digit-requires-3 Inv-loop μ-loop
-digit-requires-3 c κs = search needs
+digit-requires-3 c κs = c .before .before .before .before .before .before .before .before .before .pre .1
 
 mul-room : tie.Need-mul-room Inv-loop μ-loop
 mul-room c = let a = letter-at _ (c .before .before .before .before .before .before .before .loop .inv .fillable .letters) (c .before .before .before .before .before .before .before .loop .j) (omega (arith, c .before .before .before .before .before .before .before .loop .inv .inside)) in let e = c .digit3 .ensures in omega arith
@@ -78,7 +78,7 @@ shared-slice-read-digit-4 : tie.Need-shared-slice-read-digit-4 Inv-loop μ-loop
 shared-slice-read-digit-4 c = search needs
 
 digit-requires-4 : tie.Need-digit-requires-4 Inv-loop μ-loop
-digit-requires-4 c κs = search needs
+digit-requires-4 c κs = c .before .before .before .before .before .before .before .before .before .before .before .pre .1
 
 add-room-4 : tie.Need-add-room-4 Inv-loop μ-loop
 add-room-4 c = let a = letter-at _ (c .before .before .before .before .before .before .before .before .before .loop .inv .fillable .letters) (c .before .before .before .before .before .before .before .before .before .loop .j + 2) (omega (arith, c .before .before .before .before .before .before .before .before .before .loop .inv .inside)) in let b = letter-at _ (c .before .before .before .before .before .before .before .before .before .loop .inv .fillable .letters) (c .before .before .before .before .before .before .before .before .before .loop .j + 3) (omega (arith, c .before .before .before .before .before .before .before .before .before .loop .inv .inside)) in let e = c .before .before .before .before .digit2 .ensures in let f = c .digit4 .ensures in omega arith
@@ -125,7 +125,7 @@ part-fill-rest-end-2 : tie.Need-part-fill-rest-end-2 Inv-loop μ-loop
 part-fill-rest-end-2 c = search needs
 
 fill-rest-requires : tie.Need-fill-rest-requires Inv-loop μ-loop
-fill-rest-requires c κs = (rest-fillable _ _ _ _ _ (c .before .before .before .loop .inv), simp (length-take, length-drop) (omega arith))
+fill-rest-requires c κs = (rest-fillable _ _ _ _ _ (c .before .before .before .loop .inv), simp (length-take, length-drop) (omega arith), c .before .before .before .before .before .before .pre .1)
 
 same-length : tie.Need-same-length Inv-loop μ-loop
 same-length c = search needs

@@ -18,13 +18,13 @@ shared-slice-read-digit : tie.Need-shared-slice-read-digit
 shared-slice-read-digit c = search needs
 
 digit-requires : tie.Need-digit-requires
-digit-requires c κs = search needs
+digit-requires c κs = c .before .before .before .before .pre .2
 
 shared-slice-read-digit-2 : tie.Need-shared-slice-read-digit-2
 shared-slice-read-digit-2 c = search needs
 
 digit-requires-2 : tie.Need-digit-requires-2
-digit-requires-2 c κs = search needs
+digit-requires-2 c κs = c .before .before .before .before .before .before .pre .2
 
 mul-room : tie.Need-mul-room
 mul-room c = let a = letter-at _ (c .before .before .before .before .before .before .before .pre .0 .letters) 0 (omega arith) in let e = c .digit2 .ensures in omega arith
@@ -48,7 +48,7 @@ shared-slice-read-digit-3 : tie.Need-shared-slice-read-digit-3
 shared-slice-read-digit-3 c = search needs
 
 digit-requires-3 : tie.Need-digit-requires-3
-digit-requires-3 c κs = search needs
+digit-requires-3 c κs = c .before .before .before .before .before .before .before .before .before .pre .2
 
 add-room-2 : tie.Need-add-room-2
 add-room-2 c = let a = letter-at _ (c .before .before .before .before .before .before .before .before .before .before .pre .0 .letters) 1 (omega arith) in let b = letter-at _ (c .before .before .before .before .before .before .before .before .before .before .pre .0 .letters) 2 (omega arith) in let e = c .digit3 .ensures in let g = c .before .before .before .before .before .digit .ensures in omega arith

@@ -4,6 +4,7 @@ use native.Mathlib.Omega.{arith}
 use lib.ListN.{length}
 use Rattle.base64url.specs.Reading.{badAt}
 use Rattle.base64url.proofs.Judging.{bad-letter, bad-length, whole-groups, two-spare, two-whole, three-spare, three-whole}
+use Rattle.base64url.proofs.Letters.{digits, table-is}
 use borrow.Author.Needs.{needs}
 use Rattle.base64url.proofs.judge.Statement.{statement}
 use Rattle.base64url.proofs.judge.Tie as tie
@@ -13,17 +14,18 @@ use Rattle.base64url.proofs.bad_at.Reads as bad-at-reads
 use Rattle.base64url.proofs.digit.Reads as digit-reads
 
 bad-at-requires : tie.Need-bad-at-requires
-bad-at-requires c κs = search needs
+unfolding digits
+bad-at-requires c κs = table-is
 
 returns : tie.Need-returns
 returns c =
-    let t = c .before .before .before .args .text .now in
+    let t = c .before .before .before .before .args .text .now in
     let e = c .before .bad-at .ensures in
     rw e (bad-letter t (rw e at (c .if1 .taken)))
 
 returns-2 : tie.Need-returns-2
 returns-2 c =
-    let t = c .before .before .before .before .args .text .now in
+    let t = c .before .before .before .before .before .args .text .now in
     let h : length t ≤ badAt t = rw (c .before .before .bad-at .ensures) at (c .before .if1 .left) in
     bad-length t h (c .if2 .taken)
 
@@ -32,7 +34,7 @@ mul-whole c = search needs
 
 returns-3 : tie.Need-returns-3
 returns-3 c =
-    let t = c .before .before .before .before .before .args .text .now in
+    let t = c .before .before .before .before .before .before .args .text .now in
     let h : length t ≤ badAt t = rw (c .before .before .before .bad-at .ensures) at (c .before .before .if1 .left) in
     whole-groups t h (c .before .if2 .left) (c .if3 .taken)
 
@@ -43,41 +45,42 @@ shared-slice-read-digit : tie.Need-shared-slice-read-digit
 shared-slice-read-digit c = search needs
 
 digit-requires : tie.Need-digit-requires
-digit-requires c κs = search needs
-
-sub-t13 : tie.Need-sub-t13
-sub-t13 c = search needs
-
-returns-4 : tie.Need-returns-4
-returns-4 c =
-    let t = c .before .before .before .before .before .before .before .before .before .args .text .now in
-    let h : length t ≤ badAt t = rw (c .before .before .before .before .before .before .before .bad-at .ensures) at (c .before .before .before .before .before .before .if1 .left) in
-    two-spare t h (c .before .before .before .before .before .if2 .left) (c .before .if4 .taken) (rw (c .before .before .digit .ensures) at (c .if5 .taken))
-
-add-t14 : tie.Need-add-t14
-add-t14 c = search needs
-
-returns-5 : tie.Need-returns-5
-returns-5 c =
-    let t = c .before .before .before .before .before .before .before .before .before .args .text .now in
-    let h : length t ≤ badAt t = rw (c .before .before .before .before .before .before .before .bad-at .ensures) at (c .before .before .before .before .before .before .if1 .left) in
-    two-whole t h (c .before .before .before .before .before .if2 .left) (c .before .if4 .taken) (rw (c .before .before .digit .ensures) at (c .if5 .left))
+unfolding digits
+digit-requires c κs = table-is
 
 sub-t15 : tie.Need-sub-t15
 sub-t15 c = search needs
 
+returns-4 : tie.Need-returns-4
+returns-4 c =
+    let t = c .before .before .before .before .before .before .before .before .before .before .args .text .now in
+    let h : length t ≤ badAt t = rw (c .before .before .before .before .before .before .before .bad-at .ensures) at (c .before .before .before .before .before .before .if1 .left) in
+    two-spare t h (c .before .before .before .before .before .if2 .left) (c .before .if4 .taken) (rw (c .before .before .digit .ensures) at (c .if5 .taken))
+
+add-t16 : tie.Need-add-t16
+add-t16 c = search needs
+
+returns-5 : tie.Need-returns-5
+returns-5 c =
+    let t = c .before .before .before .before .before .before .before .before .before .before .args .text .now in
+    let h : length t ≤ badAt t = rw (c .before .before .before .before .before .before .before .bad-at .ensures) at (c .before .before .before .before .before .before .if1 .left) in
+    two-whole t h (c .before .before .before .before .before .if2 .left) (c .before .if4 .taken) (rw (c .before .before .digit .ensures) at (c .if5 .left))
+
+sub-t17 : tie.Need-sub-t17
+sub-t17 c = search needs
+
 returns-6 : tie.Need-returns-6
 returns-6 c =
-    let t = c .before .before .before .before .before .before .before .before .before .args .text .now in
+    let t = c .before .before .before .before .before .before .before .before .before .before .args .text .now in
     let h : length t ≤ badAt t = rw (c .before .before .before .before .before .before .before .bad-at .ensures) at (c .before .before .before .before .before .before .if1 .left) in
     three-spare t h (c .before .before .before .before .before .if2 .left) (omega (arith, c .before .before .before .before .before .if2 .left, c .before .before .before .before .if3 .left, c .before .if4 .left)) (rw (c .before .before .digit .ensures) at (c .if6 .taken))
 
-add-t8 : tie.Need-add-t8
-add-t8 c = search needs
+add-t10 : tie.Need-add-t10
+add-t10 c = search needs
 
 returns-7 : tie.Need-returns-7
 returns-7 c =
-    let t = c .before .before .before .before .before .before .before .before .before .args .text .now in
+    let t = c .before .before .before .before .before .before .before .before .before .before .args .text .now in
     let h : length t ≤ badAt t = rw (c .before .before .before .before .before .before .before .bad-at .ensures) at (c .before .before .before .before .before .before .if1 .left) in
     three-whole t h (c .before .before .before .before .before .if2 .left) (omega (arith, c .before .before .before .before .before .if2 .left, c .before .before .before .before .if3 .left, c .before .if4 .left)) (rw (c .before .before .digit .ensures) at (c .if6 .left))
 
@@ -93,11 +96,11 @@ judge-spec =
     sub-digit
     shared-slice-read-digit
     digit-requires
-    sub-t13
-    returns-4
-    add-t14
-    returns-5
     sub-t15
+    returns-4
+    add-t16
+    returns-5
+    sub-t17
     returns-6
-    add-t8
+    add-t10
     returns-7)
