@@ -8,6 +8,7 @@ use borrow.Author.Tests.{le-leb, lt-leb, ltb-false, eqb-true, eqb-false}
 use lib.Dec.{ltb, eqb}
 use lib.ListN.{length}
 use Rattle.basis.specs.Basis.{pick, over}
+use Rattle.base64url.proofs.Judging.{bad-le}
 use Rattle.base64url.specs.Reading.{digitOf, badAt, unusedOf, byteLength, judgedOf, bytesOf, decodedOf, leftOf, Fillable, Filled}
 use Rattle.base64url.specs.declared.Judged.the-variants.{Whole, Fault}
 use Rattle.base64url.specs.declared.Decoded.the-variants.{Bytes, Bad, Short}
@@ -22,15 +23,6 @@ pub record Sound (text : List ℕ) (n : ℕ) : Type 0 where
   pub left : length text % 4 ≡ 1 → ⊥
   pub unused : unusedOf text ≡ 0
   pub count : n ≡ byteLength (length text)
-
-bad-le : (text : List ℕ) → badAt text ≤ length text
-unfolding badAt
-bad-le [] = omega arith
-bad-le (c ∷ t) = by (ltb (digitOf c) 64) (bad-le t)
-  where
-    by : (b : Bool) → badAt t ≤ length t → pick b (suc (badAt t)) 0 ≤ length (c ∷ t)
-    by true h = omega arith
-    by false h = omega arith
 
 pub sound : (text : List ℕ) {n : ℕ} → judgedOf text ≡ Whole n → Sound text n
 unfolding judgedOf

@@ -1,16 +1,17 @@
 -- What the definition of judging computes to, in the terms that the code has.
 use mathlib.Core.Path.{_≡_, refl, ap, _∙_}
+use mathlib.Core.Bool.{Bool, true, false, _&&_}
 use mathlib.Core.List.{List, [], _∷_}
 use Prim.Native.Nat.{ℕ, suc, _+_, _-_, _*_, _/_, _%_, _≤_, _<_}
 use native.Mathlib.Nat.{zero-add}
 use native.Mathlib.Numerals.{add-one}
 use native.Mathlib.Omega.{arith}
-use borrow.Author.Tests.{lt-ltb, le-ltb, eq-eqb, ne-eqb}
-use lib.Dec.{eqb}
-use lib.ListN.{length, drop, getD, drop-of-length-le}
-use lib.Seq.{drop-cons}
+use borrow.Author.Tests.{ltb-true, lt-ltb, le-ltb, eq-eqb, ne-eqb}
+use lib.Dec.{ltb, eqb}
+use lib.ListN.{length, take, drop, getD, drop-of-length-le, length-drop}
+use lib.Seq.{drop-cons, take-all}
 use Rattle.basis.specs.Basis.{pick}
-use Rattle.base64url.specs.Reading.{digitOf, badAt, unusedOf, byteLength, judgedOf}
+use Rattle.base64url.specs.Reading.{digitOf, fourLetters, badAt, unusedOf, byteLength, judgedOf}
 use Rattle.base64url.specs.declared.Judged.the-variants.{Whole, Fault}
 
 -- the unused bits are those of the last character, by the length that is left over
@@ -57,6 +58,40 @@ module _ (text : List ℕ) where
     found-none h =
         let e : badAt (drop i text) ≡ 0 = rw (drop-of-length-le text h) in
         omega (arith, k .rest)
+
+pub bad-le : (text : List ℕ) → badAt text ≤ length text
+unfolding badAt
+bad-le [] = omega arith
+bad-le (c ∷ t) = by (ltb (digitOf c) 64) (bad-le t)
+  where
+    by : (b : Bool) → badAt t ≤ length t → pick b (suc (badAt t)) 0 ≤ length (c ∷ t)
+    by true h = omega arith
+    by false h = omega arith
+
+both : (p q : Bool) → p && q ≡ true → (p ≡ true) × (q ≡ true)
+both true q e = (refl, e)
+both false q e = (e, let z : _≡_ {A = Bool} false true = e in cc)
+
+-- four at a time
+module _ (text : List ℕ) (i : ℕ) (k : Searched text i) where
+  next : (j : ℕ) → j ≡ i + 1 → i < length text → ltb (digitOf (getD text i 0)) 64 ≡ true → Searched text j
+  next j e h g = rw e (searched-one text i k h (ltb-true _ _ g))
+
+pub searched-four : (text : List ℕ) (i : ℕ) → Searched text i → 4 ≤ length text - i
+    → fourLetters (getD text i 0) (getD text (i + 1) 0) (getD text (i + 2) 0) (getD text (i + 3) 0) ≡ true → Searched text (i + 4)
+unfolding fourLetters
+searched-four text i k h e =
+    let a = both _ _ e in
+    let b = both _ _ (a .1) in
+    let d = both _ _ (b .1) in
+    let k1 = next text i k (i + 1) refl (omega arith) (a .0) in
+    let k2 = next text (i + 1) k1 (i + 2) (omega arith) (omega arith) (b .0) in
+    let k3 = next text (i + 2) k2 (i + 3) (omega arith) (omega arith) (d .0) in
+    next text (i + 3) k3 (i + 4) (omega arith) (omega arith) (d .1)
+
+-- the place in what is left is the place in the text
+pub found-behind : (text : List ℕ) (i r : ℕ) → Searched text i → r ≡ badAt (take (length text - i) (drop i text)) → i + r ≡ badAt text
+found-behind text i r k e = rw (e, take-all (length text - i) (drop i text) (simp length-drop (omega arith))) (k .rest)
 
 -- one law for each way out of `judge`
 module _ (text : List ℕ) where

@@ -1,6 +1,7 @@
 -- Reading a text: its first defect by document 02's rule for places (the first bad character; else a wrong length, at the end;
 -- else unused bits, at the last character), or the bytes that it stands for.
 use mathlib.Core.Path.{_≡_}
+use mathlib.Core.Bool.{Bool, _&&_}
 use mathlib.Core.List.{List, [], _∷_}
 use Prim.Native.Nat.{ℕ, suc, _+_, _-_, _*_, _/_, _%_, _≤_, _<_}
 use lib.ListN.{length, getD}
@@ -20,6 +21,10 @@ digitOf c = indexOf c alphabet
 -- a table of them, by character
 abbrev pub IsDigits : List ℕ → Type 0
 IsDigits d = (c : ℕ) → c < 256 → getD d c 0 ≡ digitOf c
+
+-- whether four characters are letters
+unfoldable pub fourLetters : ℕ → ℕ → ℕ → ℕ → Bool
+fourLetters a b c d = ltb (digitOf a) 64 && (ltb (digitOf b) 64 && (ltb (digitOf c) 64 && ltb (digitOf d) 64))
 
 -- the index of the first character that is no letter; the text's length where all are
 unfoldable pub badAt : List ℕ → ℕ

@@ -6,7 +6,7 @@ ghost use lib.ListN.{length};
 ghost use Rattle.basis.specs.Basis.{over};
 ghost use Rattle.base64url.specs.Base64url.{base64url, letterOf, tailLength, textLength};
 ghost use Rattle.base64url.specs.Writing.{Encoding};
-ghost use Rattle.base64url.specs.Reading.{IsDigits, digitOf, badAt, judgedOf, bytesOf, Fillable, Filled};
+ghost use Rattle.base64url.specs.Reading.{IsDigits, digitOf, fourLetters, badAt, judgedOf, bytesOf, Fillable, Filled};
 
 // The six bits of each character, and 64 for one that is no letter. The compiler lays the table out anew
 // where it is named, so that loops are lent it.
@@ -53,7 +53,25 @@ fn digit(digits: &[u8; 256], c: u8) -> u8
     digits[c as usize]
 }
 
-fn bad_at(digits: &[u8; 256], text: &[u8]) -> usize
+// Whether four characters are letters.
+fn four_letters(digits: &[u8; 256], a: u8, b: u8, c: u8, d: u8) -> bool
+    requires { ⌜ IsDigits (now digits) ⌝ }
+    ensures { λ r. ⌜ r ≡ fourLetters a b c d ⌝ }
+{
+    if 64 <= digit(digits, a) {
+        return false;
+    }
+    if 64 <= digit(digits, b) {
+        return false;
+    }
+    if 64 <= digit(digits, c) {
+        return false;
+    }
+    digit(digits, d) < 64
+}
+
+// One by one, in a short text or to find the place.
+fn bad_in(digits: &[u8; 256], text: &[u8]) -> usize
     requires { ⌜ IsDigits (now digits) ⌝ }
     ensures { λ r. ⌜ r ≡ badAt (now (text .entry)) ⌝ }
 {
@@ -65,6 +83,21 @@ fn bad_at(digits: &[u8; 256], text: &[u8]) -> usize
         i += 1;
     }
     i
+}
+
+fn bad_at(digits: &[u8; 256], text: &[u8]) -> usize
+    requires { ⌜ IsDigits (now digits) ⌝ }
+    ensures { λ r. ⌜ r ≡ badAt (now (text .entry)) ⌝ }
+{
+    let mut i: usize = 0;
+    while 4 <= text.len() - i {
+        if four_letters(digits, text[i], text[i + 1], text[i + 2], text[i + 3]) {
+            i += 4;
+        } else {
+            return i + bad_in(digits, &text[i..]);
+        }
+    }
+    i + bad_in(digits, &text[i..])
 }
 
 pub fn judge(text: &[u8]) -> Judged

@@ -2,11 +2,11 @@
 // A reader takes a slice of any length and a place in it; a defect carries document 01's number and
 // the place of the item at fault.
 ghost use mathlib.Core.Path.{_≡_};
-ghost use Prim.Native.Nat.{_<_, _≤_};
+ghost use Prim.Native.Nat.{_<_, _≤_, min, max};
 ghost use lib.ListN.{length};
 ghost use Rattle.cbor.specs.Heads.{numberOf, widthOf, readHead};
 ghost use Rattle.cbor.specs.Counts.{readCount};
-ghost use Rattle.cbor.specs.Strings.{allOf, kindOf, kindsFrom, contentOf, readRun, readString};
+ghost use Rattle.cbor.specs.Strings.{within, allOf, kindOf, kindsFrom, contentOf, readRun, readString};
 
 // How many bytes follow a head's first one, and the least number that they may hold.
 pub enum Width {
@@ -186,12 +186,44 @@ fn all_from(s: &[u8], low: u8, high: u8) -> bool
     true
 }
 
+fn lower(a: u8, b: u8) -> u8
+    ensures { λ r. ⌜ r ≡ min a b ⌝ }
+{
+    if a < b { a } else { b }
+}
+
+fn higher(a: u8, b: u8) -> u8
+    ensures { λ r. ⌜ r ≡ max a b ⌝ }
+{
+    if a < b { b } else { a }
+}
+
+// Whether every character lies from low to high. The loop has one way out, so that the compiler takes
+// many characters at a time.
+fn all_between(s: &[u8], low: u8, high: u8) -> bool
+    ensures { λ r. ⌜ r ≡ allOf (within low high) (now (s .entry)) ⌝ }
+{
+    let mut first: u8 = 255;
+    let mut last: u8 = 0;
+    let mut i: usize = 0;
+    while i < s.len() {
+        let c = s[i];
+        first = lower(c, first);
+        last = higher(c, last);
+        i += 1;
+    }
+    if first < low {
+        return false;
+    }
+    last <= high
+}
+
 pub fn content(s: &[u8], class: Class) -> bool
     ensures { λ r. ⌜ r ≡ contentOf class (now (s .entry)) ⌝ }
 {
     match class {
         Class::Name => all_from(s, 2, 4),
-        Class::Printable => all_from(s, 1, 4),
+        Class::Printable => all_between(s, 0x21, 0x7e),
         Class::Upper => all_from(s, 3, 3),
         Class::Hex => all_from(s, 4, 4),
         Class::Path => {
@@ -201,7 +233,7 @@ pub fn content(s: &[u8], class: Class) -> bool
             if s[0] != b'/' {
                 return false;
             }
-            all_from(s, 1, 4)
+            all_between(s, 0x21, 0x7e)
         }
     }
 }

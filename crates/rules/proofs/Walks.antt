@@ -17,32 +17,60 @@ use Rattle.cbor.specs.declared.Span.the-variants.{Of, Bad}
 use Rattle.rules.specs.Holding.{fitsOf}
 use Rattle.rules.specs.Judging.{memberAt}
 
--- the first i bytes fit, and the rest decides
-pub record Fitting (p t : List ℕ) (i : ℕ) : Type 0 where
+-- whether the first i bytes fit; where they do, the rest decides
+pub record Fitting (p t : List ℕ) (b : Bool) (i : ℕ) : Type 0 where
+  pub long : length p ≤ length t
   pub inside : i ≤ length p
-  pub rest : fitsOf (drop i p) (drop i t) ≡ fitsOf p t
+  pub rest : pick b (fitsOf (drop i p) (drop i t)) false ≡ fitsOf p t
 
-pub fitting-none : (p t : List ℕ) → Fitting p t 0
-fitting-none p t = record { inside = omega arith; rest = refl }
+pub too-short : (p t : List ℕ) → length t < length p → false ≡ fitsOf p t
+unfolding fitsOf
+too-short [] t h = let z : ⊥ = omega arith in elim z [ ]
+too-short (a ∷ p) [] h = refl
+too-short (a ∷ p) (b ∷ t) h = by (eqb a b) (too-short p t (omega arith))
+  where
+    by : (u : Bool) → false ≡ fitsOf p t → false ≡ pick u (fitsOf p t) false
+    by true e = e
+    by false e = refl
 
-module _ (p t : List ℕ) (i : ℕ) (w : Fitting p t i) where
-  pub fitting-all : length p ≤ i → true ≡ fitsOf p t
+pub fitting-none : (p t : List ℕ) → length p ≤ length t → Fitting p t true 0
+fitting-none p t l = record { long = l; inside = omega arith; rest = refl }
+
+whole : (b : Bool) → pick b true false ≡ b
+whole true = refl
+whole false = refl
+
+none : (b : Bool) → pick b false false ≡ false
+none true = refl
+none false = refl
+
+module _ (p t : List ℕ) (b : Bool) (i : ℕ) (w : Fitting p t b i) where
+  pub fitting-all : length p ≤ i → b ≡ fitsOf p t
   unfolding fitsOf
-  fitting-all h = rw (drop-of-length-le p h) at (w .rest)
+  fitting-all h = sym (whole b) ∙ (rw (drop-of-length-le p h) at (w .rest))
 
   module _ (h : i < length p) where
-    pub path-ends : length t ≤ i → false ≡ fitsOf p t
+    in-t : i < length t
+    in-t = omega (arith, w .long)
+
+    pub other-byte : (getD p i 0 ≡ getD t i 0 → ⊥) → Fitting p t false (i + 1)
     unfolding fitsOf
-    path-ends g = rw (drop-cons p i 0 h, drop-of-length-le t g) at (w .rest)
+    other-byte d = record {
+      long = w .long;
+      inside = omega arith;
+      rest = sym (none b) ∙ (rw (drop-cons p i 0 h, drop-cons t i 0 in-t, ne-eqb _ _ d) at (w .rest));
+    }
 
-    module _ (g : i < length t) where
-      pub other-byte : (getD p i 0 ≡ getD t i 0 → ⊥) → false ≡ fitsOf p t
-      unfolding fitsOf
-      other-byte d = rw (drop-cons p i 0 h, drop-cons t i 0 g, ne-eqb _ _ d) at (w .rest)
+    pub fitting-one : getD p i 0 ≡ getD t i 0 → Fitting p t b (i + 1)
+    unfolding fitsOf
+    fitting-one e = record {
+      long = w .long;
+      inside = omega arith;
+      rest = rw add-one (rw (drop-cons p i 0 h, drop-cons t i 0 in-t, eq-eqb _ _ e) at (w .rest));
+    }
 
-      pub fitting-one : getD p i 0 ≡ getD t i 0 → Fitting p t (i + 1)
-      unfolding fitsOf
-      fitting-one e = record { inside = omega arith; rest = rw add-one (rw (drop-cons p i 0 h, drop-cons t i 0 g, eq-eqb _ _ e) at (w .rest)) }
+pub fitting-as : {p t : List ℕ} {b d : Bool} {i : ℕ} → d ≡ b → Fitting p t b i → Fitting p t d i
+fitting-as e w = rw e w
 
 -- methods: what follows decides
 module _ (k : ℕ) (s m : List ℕ) (p : ℕ) (g : 0 < k) where

@@ -31,21 +31,23 @@ pub struct Asked {
     pub audience: Audience,
 }
 
-// Whether a path starts with a prefix, byte by byte.
+// Whether a path starts with a prefix. The loop goes on behind a byte that differs, so that the compiler
+// takes many at a time.
 fn fits(prefix: &[u8], path: &[u8]) -> bool
     ensures { λ r. ⌜ r ≡ fitsOf (now (prefix .entry)) (now (path .entry)) ⌝ }
 {
+    if path.len() < prefix.len() {
+        return false;
+    }
+    let mut fitting = true;
     let mut i: usize = 0;
     while i < prefix.len() {
-        if path.len() <= i {
-            return false;
-        }
         if prefix[i] != path[i] {
-            return false;
+            fitting = false;
         }
         i += 1;
     }
-    true
+    fitting
 }
 
 // Whether a method is one of `count` from a place on.
