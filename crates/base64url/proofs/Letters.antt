@@ -1,16 +1,17 @@
 -- Letters and their six bits: the code's table is the alphabet's, and each leads back to the other.
 use mathlib.Core.Path.{_≡_, refl}
-use mathlib.Core.Bool.{Bool, true, false}
+use mathlib.Core.Bool.{Bool, true, false, _&&_}
 use mathlib.Core.List.{List, [], _∷_}
 use Prim.Native.Nat.{ℕ, _≤_, _<_}
 use native.Mathlib.Omega.{arith}
-use borrow.Author.Tests.{eqb-true}
-use lib.Dec.{eqb}
+use borrow.Author.Tests.{eqb-true, ltb-true, ltb-false, lt-ltb, le-ltb}
+use lib.Bits.{bitOr, or-lt, or-comm, or-add-and, and-le-r}
+use lib.Dec.{eqb, ltb}
 use lib.ListN.{length, getD}
 use Rattle.bytes.specs.Bytes.{indexOf, indexAfter}
 use Rattle.basis.proofs.All.{all, all-at}
 use Rattle.base64url.specs.Base64url.{alphabet, letterOf}
-use Rattle.base64url.specs.Reading.{digitOf}
+use Rattle.base64url.specs.Reading.{digitOf, fourLetters}
 
 -- the table of the code
 unfoldable pub digits : List ℕ
@@ -60,3 +61,24 @@ index-back c (x ∷ s) h = by (eqb x c) refl h (index-back c s)
 pub letter-digit : (c : ℕ) → digitOf c < 64 → letterOf (digitOf c) ≡ c
 unfolding digitOf letterOf
 letter-digit c h = index-back c alphabet h
+
+or-le : (a b : ℕ) → a ≤ bitOr a b
+or-le a b = omega (arith, or-add-and a b, and-le-r a b)
+
+-- numbers joined bit by bit are below 64 where all of them are
+pub or-below : (a b : ℕ) → ltb (bitOr a b) 64 ≡ ltb a 64 && ltb b 64
+or-below a b = by (ltb a 64) refl (ltb b 64) refl
+  where
+    by : (x : Bool) → ltb a 64 ≡ x → (y : Bool) → ltb b 64 ≡ y → ltb (bitOr a b) 64 ≡ x && y
+    by true p true q = lt-ltb (bitOr a b) 64 (or-lt 6 a b (ltb-true a 64 p) (ltb-true b 64 q))
+    by true p false q = le-ltb (bitOr a b) 64 (let e = or-le b a in omega (arith, or-comm a b, ltb-false b 64 q))
+    by false p y q = le-ltb (bitOr a b) 64 (omega (arith, or-le a b, ltb-false a 64 p))
+
+and-assoc : (p q r : Bool) → (p && q) && r ≡ p && (q && r)
+and-assoc true q r = refl
+and-assoc false q r = refl
+
+pub four-joined : (a b c d v w x y : ℕ) → v ≡ digitOf a → w ≡ digitOf b → x ≡ digitOf c → y ≡ digitOf d
+    → ltb (bitOr (bitOr v w) (bitOr x y)) 64 ≡ fourLetters a b c d
+unfolding fourLetters
+four-joined a b c d v w x y e f g h = rw (e, f, g, h, or-below, or-below, or-below, and-assoc)

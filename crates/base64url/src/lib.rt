@@ -53,21 +53,14 @@ fn digit(digits: &[u8; 256], c: u8) -> u8
     digits[c as usize]
 }
 
-// Whether four characters are letters.
+// Whether four characters are letters: 64 has the one bit that no letter's number has.
 fn four_letters(digits: &[u8; 256], a: u8, b: u8, c: u8, d: u8) -> bool
     requires { ⌜ IsDigits (now digits) ⌝ }
     ensures { λ r. ⌜ r ≡ fourLetters a b c d ⌝ }
 {
-    if 64 <= digit(digits, a) {
-        return false;
-    }
-    if 64 <= digit(digits, b) {
-        return false;
-    }
-    if 64 <= digit(digits, c) {
-        return false;
-    }
-    digit(digits, d) < 64
+    let front = digit(digits, a) | digit(digits, b);
+    let back = digit(digits, c) | digit(digits, d);
+    (front | back) < 64
 }
 
 // One by one, in a short text or to find the place.
