@@ -1,0 +1,20 @@
+-- Document 01, "Examples on the line": "Bundle 00 00 30 00 00 00 10 00 05 prints "deny ctx.bad", then "bundle.bad"." By computation.
+use mathlib.Core.Path.{_≡_, refl}
+use mathlib.Core.List.{List, [], _∷_, _++_}
+use Prim.Native.Nat.{ℕ}
+use Rattle.basis.specs.Basis.{ascii}
+use Rattle.records.specs.Records.{littleOf, runAt, numberAt, recordThen, recordAt, kindThen as lengthThen}
+use Rattle.tables.specs.Reading.{okFrom, tableOk}
+use Rattle.requests.specs.Reading.{fixedAt, requestOf}
+use Rattle.judging.specs.Verifying.{requestThen, verifyOf}
+use Rattle.bundle.specs.Lines.{answerOf, wordsOf, line, badLine, kindThen, linesFrom, linesOf}
+
+-- before any request, whatever the token
+pub unasked : (token : List ℕ) → verifyOf [] [] token ≡ 2
+unfolding verifyOf requestThen tableOk okFrom requestOf fixedAt numberAt runAt
+unasked token = refl
+
+pub bundle-example :
+    linesOf (0x00 ∷ 0x00 ∷ 0x30 ∷ 0x00 ∷ 0x00 ∷ 0x00 ∷ 0x10 ∷ 0x00 ∷ 0x05 ∷ []) ≡ ascii "deny ctx.bad" ++ (0x0a ∷ ascii "bundle.bad" ++ (0x0a ∷ []))
+unfolding answerOf wordsOf line kindThen linesFrom linesOf littleOf runAt numberAt recordThen recordAt lengthThen verifyOf requestThen tableOk okFrom requestOf fixedAt
+bundle-example = refl

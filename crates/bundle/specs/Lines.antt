@@ -1,0 +1,85 @@
+-- A bundle judged, line by line. Document 01, "House records": "Bundle on standard input, up to 65,536 bytes: kind 16 a table, 32 a
+-- request, 48 a token. .. One line per token, "allow" or "deny " and the name. Every line ends with byte 0x0a."
+use mathlib.Core.Path.{_≡_}
+use mathlib.Core.List.{List, [], _∷_, _++_}
+use Prim.Native.Nat.{ℕ, zero, suc}
+use lib.Dec.{eqb, leb, ltb}
+use lib.ListN.{length}
+use Rattle.basis.specs.Basis.{pick, ascii, between, over}
+use Rattle.answers.specs.Answers.{numberOf, nameOf}
+use Rattle.answers.specs.declared.Answer.{Answer}
+use Rattle.answers.specs.declared.Answer.the-variants.{
+  Allow,
+  TableBad,
+  CtxBad,
+  ParseB64,
+  ParseCbor,
+  ParseBounds,
+  SchemaUnknownField,
+  KidUnknown,
+  MacMismatch,
+  TenantMismatch,
+  CaveatMethod,
+  CaveatPath,
+  CaveatBytes,
+  CaveatExp,
+  CaveatNbf,
+  CaveatAud,
+  CaveatIp,
+  CaveatRate,
+  CaveatTenant,
+  CaveatAmnesia,
+  CaveatPolicyDigest,
+  CaveatCustomUnknown,
+  HashBad,
+}
+use Rattle.records.specs.Records.{afterRecord, recordAt}
+use Rattle.judging.specs.Verifying.{verifyOf}
+
+-- the answers that verify gives
+abbrev pub verifys : List Answer
+verifys =
+    Allow ∷ TableBad ∷ CtxBad ∷ ParseB64 ∷ ParseCbor ∷ ParseBounds ∷ SchemaUnknownField ∷ KidUnknown ∷ MacMismatch ∷ TenantMismatch ∷ CaveatMethod ∷ CaveatPath ∷ CaveatBytes ∷ CaveatExp ∷ CaveatNbf ∷ CaveatAud ∷ CaveatIp ∷ CaveatRate ∷ CaveatTenant ∷ CaveatAmnesia ∷ CaveatPolicyDigest ∷ CaveatCustomUnknown ∷ []
+
+-- the one with this number; another number is not asked for
+abbrev pub withNumber : ℕ → List Answer → Answer
+withNumber n [] = HashBad
+withNumber n (a ∷ rest) = pick (eqb n (numberOf a)) a (withNumber n rest)
+
+unfoldable pub answerOf : ℕ → Answer
+answerOf n = withNumber n verifys
+
+unfoldable pub wordsOf : ℕ → List ℕ
+wordsOf n = pick (eqb n 0) (ascii "allow") (ascii "deny " ++ nameOf (answerOf n))
+
+unfoldable pub line : ℕ → List ℕ
+line n = wordsOf n ++ (0x0a ∷ [])
+
+abbrev pub badLine : List ℕ
+badLine = ascii "bundle.bad" ++ (0x0a ∷ [])
+
+-- "Later tables and requests replace earlier ones. .. At a cut record or other kind: "bundle.bad" and stop"; `rest` goes on behind the record
+unfoldable pub kindThen : (List ℕ → List ℕ → ℕ → List ℕ) → List ℕ → List ℕ → List ℕ → ℕ → ℕ → ℕ → List ℕ
+kindThen rest s table request kind from to =
+    pick (eqb kind 16) (rest (between s from to) request to)
+    (pick (eqb kind 32) (rest table (between s from to) to)
+    (pick (eqb kind 48) (line (verifyOf table request (between s from to)) ++ rest table request to) badLine))
+
+-- so many records at most from a place on, under this table and this request
+unfoldable pub linesFrom : ℕ → List ℕ → List ℕ → List ℕ → ℕ → List ℕ
+linesFrom zero s table request at = []
+linesFrom (suc k) s table request at = pick (eqb at (length s)) [] (afterRecord badLine (kindThen (linesFrom k s) s table request) (recordAt s at))
+
+-- "Before any, the table is empty and the request counts as malformed": so does an empty one. A record has at least four bytes, so that
+-- 65,536 bytes hold 16,384 at most. "a longer input gives that line only"
+unfoldable pub linesOf : List ℕ → List ℕ
+linesOf input = pick (ltb 65536 (length input)) badLine (linesFrom 16384 input [] [] 0)
+
+-- 16,384 lines of at most 27 bytes, "deny caveat.custom.unknown" and the byte 0x0a
+abbrev pub enough : ℕ
+enough = 442368
+
+-- the lines are written over the front of a room that is always enough; in a shorter one nothing is
+pub record Judged (input entry : List ℕ) (count : ℕ) (exit : List ℕ) : Type 0 where
+  pub counted : count ≡ pick (leb enough (length entry)) (length (linesOf input)) 0
+  pub content : exit ≡ pick (leb enough (length entry)) (over (linesOf input) entry) entry

@@ -1,0 +1,122 @@
+// Bundles judged: tables, requests and tokens in one input, and a line for each token. Tables and requests
+// are kept as places in the input; each line is written behind the last.
+use answers::Answer;
+use records::Record;
+ghost use mathlib.Core.Path.{_≡_};
+ghost use mathlib.Core.List.{[]};
+ghost use Prim.Native.Nat.{_+_, _≤_};
+ghost use lib.ListN.{length};
+ghost use Rattle.answers.specs.Answers.{nameOf};
+ghost use Rattle.writing.specs.Placing.{Placed};
+ghost use Rattle.bundle.specs.Lines.{answerOf, wordsOf, line, linesFrom, Judged};
+
+// The answer that verify's number stands for.
+fn answer_of(n: u32) -> Answer
+    ensures { λ r. ⌜ r ≡ answerOf n ⌝ }
+{
+    match n {
+        0 => Answer::Allow,
+        1 => Answer::TableBad,
+        2 => Answer::CtxBad,
+        3 => Answer::ParseB64,
+        4 => Answer::ParseCbor,
+        5 => Answer::ParseBounds,
+        6 => Answer::SchemaUnknownField,
+        7 => Answer::KidUnknown,
+        8 => Answer::MacMismatch,
+        9 => Answer::TenantMismatch,
+        10 => Answer::CaveatMethod,
+        11 => Answer::CaveatPath,
+        12 => Answer::CaveatBytes,
+        13 => Answer::CaveatExp,
+        14 => Answer::CaveatNbf,
+        15 => Answer::CaveatAud,
+        16 => Answer::CaveatIp,
+        17 => Answer::CaveatRate,
+        18 => Answer::CaveatTenant,
+        19 => Answer::CaveatAmnesia,
+        20 => Answer::CaveatPolicyDigest,
+        21 => Answer::CaveatCustomUnknown,
+        _ => Answer::HashBad,
+    }
+}
+
+fn put_name(room: &mut [u8], at: usize, n: u32) -> usize
+    requires { ⌜ at + length (nameOf (answerOf n)) ≤ length (now room) ⌝ }
+    ensures { λ r. ⌜ Placed (nameOf (answerOf n)) (now (room .entry)) at r (now (room .exit)) ⌝ }
+{
+    let k = answers::name(answer_of(n), &mut room[at..]);
+    at + k
+}
+
+// "allow", or "deny " and the name.
+fn put_words(room: &mut [u8], at: usize, n: u32) -> usize
+    requires { ⌜ at + length (wordsOf n) ≤ length (now room) ⌝ }
+    ensures { λ r. ⌜ Placed (wordsOf n) (now (room .entry)) at r (now (room .exit)) ⌝ }
+{
+    if n == 0 {
+        return writing::put_at(room, at, b"allow");
+    }
+    let p = writing::put_at(room, at, b"deny ");
+    put_name(room, p, n)
+}
+
+fn put_line(room: &mut [u8], at: usize, n: u32) -> usize
+    requires { ⌜ at + length (line n) ≤ length (now room) ⌝ }
+    ensures { λ r. ⌜ Placed (line n) (now (room .entry)) at r (now (room .exit)) ⌝ }
+{
+    let p = put_words(room, at, n);
+    writing::put_at(room, p, b"\n")
+}
+
+// The lines of an input of at most 65,536 bytes.
+fn walk(input: &[u8], room: &mut [u8]) -> usize
+    requires { ⌜ (length (now input) ≤ 65536) × (442368 ≤ length (now room)) ⌝ }
+    ensures { λ r. ⌜ Placed (linesFrom 16384 (now (input .entry)) [] [] 0) (now (room .entry)) 0 r (now (room .exit)) ⌝ }
+{
+    let mut p: usize = 0;
+    let mut n: usize = 0;
+    let mut t: usize = 0;
+    let mut t_end: usize = 0;
+    let mut q: usize = 0;
+    let mut q_end: usize = 0;
+    while p != input.len() {
+        match records::record_at(input, p) {
+            Record::Bad => {
+                return writing::put_at(room, n, b"bundle.bad\n");
+            }
+            Record::Of { kind, from, to } => {
+                if kind == 16 {
+                    t = from;
+                    t_end = to;
+                } else if kind == 32 {
+                    q = from;
+                    q_end = to;
+                } else if kind == 48 {
+                    let table = basis::part(input, t, t_end);
+                    let request = basis::part(input, q, q_end);
+                    let answer = judging::verify(table, request, basis::part(input, from, to));
+                    n = put_line(room, n, answer);
+                } else {
+                    return writing::put_at(room, n, b"bundle.bad\n");
+                }
+                p = to;
+            }
+        }
+    }
+    n
+}
+
+// Writes the lines at the front of the room and says how long they are; in a room of less than 442,368
+// bytes it writes nothing and says 0.
+pub fn judge_bundle(input: &[u8], room: &mut [u8]) -> usize
+    ensures { λ r. ⌜ Judged (now (input .entry)) (now (room .entry)) r (now (room .exit)) ⌝ }
+{
+    if room.len() < 442368 {
+        return 0;
+    }
+    if 65536 < input.len() {
+        return writing::put_at(room, 0, b"bundle.bad\n");
+    }
+    walk(input, room)
+}
