@@ -175,7 +175,7 @@ pub fn bad_table(rows: &[Row], seeded: &mut Seeded) -> Vec<u8> {
     }
 }
 
-fn bad_request(case: &Case, seeded: &mut Seeded) -> Vec<u8> {
+pub fn bad_request(case: &Case, seeded: &mut Seeded) -> Vec<u8> {
     let mut request = case.request.clone();
     let laid = request.laid();
     match seeded.below(7) {

@@ -2,6 +2,7 @@
 //! inputs made from them; what is done to these; and the proved functions beside the second program's.
 
 pub mod beside;
+pub mod bundles;
 pub mod calls;
 pub mod cases;
 pub mod damage;
@@ -10,6 +11,7 @@ pub mod faults;
 pub mod fitting;
 pub mod inputs;
 pub mod issuing;
+pub mod judges;
 pub mod narrowing;
 mod parts;
 pub mod requests;
