@@ -15,6 +15,7 @@ pub mod judges;
 pub mod narrowing;
 mod parts;
 pub mod requests;
+pub mod sample_bundle;
 pub mod samples;
 pub mod strings;
 pub mod tables;
