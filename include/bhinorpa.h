@@ -8,8 +8,9 @@
  * Nothing else is asked: any bytes of any length may come in, and every call returns.
  *
  * Link target/staticlib/libbhinorpa.a for bhinorpa_verify, bhinorpa_issue and bhinorpa_narrow, and
- * target/staticlib/libkeyed_hash.a for bhinorpa_keyed_hash (tools/archives makes both), and the C library,
- * of which the hash needs memcpy and memset alone.
+ * target/staticlib/libkeyed_hash.a for bhinorpa_keyed_hash (tools/archives makes both; either may be linked
+ * alone, or both together), and the C library, of which both need memcpy and memset and nothing else. No
+ * heap, no files, no clock and no state from one call to the next: all the work room is on the stack.
  */
 #ifndef BHINORPA_H
 #define BHINORPA_H
@@ -56,6 +57,16 @@ enum bhinorpa_answer {
     BHINORPA_HASH_BAD = 37               /* hash.bad: the message is over 8,192 bytes, or the key is not 32 bytes */
 };
 
+/* How many bytes of stack to have free for a call, its arguments and all that it calls included. These are
+ * measured and rounded up, not proved: host/stack/stack.c, which tools/check-c runs, calls each function on a
+ * stack filled with one byte, with the longest, the deepest and the most of everything, and looks how far down
+ * that byte was overwritten. On x86-64 these were 7,428 bytes for verify, 2,116 for issue, 11,316 for narrow
+ * and 2,580 for the hash. An interrupt that runs on the same stack needs its own bytes besides. */
+#define BHINORPA_VERIFY_STACK 8192
+#define BHINORPA_ISSUE_STACK 3072
+#define BHINORPA_NARROW_STACK 12288
+#define BHINORPA_KEYED_HASH_STACK 3072
+
 /* Whether a token allows a request: BHINORPA_ALLOW, or the first reason that it does not, BHINORPA_TABLE_BAD
  * to BHINORPA_CAVEAT_CUSTOM_UNKNOWN. Grant on 0 and on nothing else.
  *
@@ -70,9 +81,8 @@ enum bhinorpa_answer {
  * comes before BHINORPA_PARSE_B64, and for the first defect of the token, which is 4, 5 or 6 by what it
  * is; then come the caveats in the token's order, each with its own number.
  *
- * The call keeps nothing from one time to the next and only reads the three ranges; its work room, 4,096
- * bytes for the decoded token and some more, is on the stack. It looks at no clock: the time is what the
- * request says, and a rate is compared with the one that the request states, not counted. */
+ * The call keeps nothing from one time to the next and only reads the three ranges. It looks at no clock: the
+ * time is what the request says, and a rate is compared with the one that the request states, not counted. */
 uint32_t bhinorpa_verify(const uint8_t *table, size_t table_length, const uint8_t *request,
                          size_t request_length, const uint8_t *token, size_t token_length);
 

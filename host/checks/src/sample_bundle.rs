@@ -1,6 +1,6 @@
-//! The sample in examples/: one bundle with two tenants' keys, their requests, tokens that are allowed, and
-//! one token at least for each reason to deny. Each token stands with the line that is printed for it.
-//! The tokens are made by the proved issue and narrow.
+//! The samples in examples/: one bundle with two tenants' keys, their requests, tokens that are allowed, and
+//! one token at least for each reason to deny, and the messages of the module's example. Each token stands
+//! with the line that is printed for it. The tokens are made by the proved issue and narrow.
 
 use second::request::Rate;
 
@@ -12,6 +12,9 @@ use crate::trees::{caveat_of, rate};
 
 /// The first second of 2026, in UTC.
 const NEW_YEAR: u64 = 1_767_225_600;
+
+/// How many seconds a day has.
+const DAY: u64 = 86_400;
 
 const DIGEST: &[u8; 64] = b"9f86d081884c7d659a2feaa0c55ad015a3bf4f1b2b0b822cd15d6c15b0f00a08";
 
@@ -64,16 +67,9 @@ fn texts() -> Vec<Step> {
 
 /// Tokens under a key that is gone, with another tag, and of another tenant.
 fn tokens() -> Vec<Step> {
-    let forged = {
-        let mut text = fresh(WORKSHOP);
-        // A character of the tag, which lies in the middle of the token.
-        let at = text.len() / 2;
-        text[at] = if text[at] == b'A' { b'B' } else { b'A' };
-        text
-    };
     vec![
         token("deny kid.unknown", fresh(WORKSHOP_OLD)),
-        token("deny mac.mismatch", forged),
+        token("deny mac.mismatch", forged(WORKSHOP)),
         token("deny tenant.mismatch", fresh(CONTRACTOR)),
     ]
 }
@@ -153,6 +149,46 @@ fn others() -> Vec<Step> {
     ]
 }
 
+/// The messages that examples/firmware.c is tried on, and what it prints for them. The workshop may read
+/// and write the count; the contractor, until the day after, may read it on relay 1.
+pub fn service() -> (String, String) {
+    let texts = [fresh(WORKSHOP), read_only(), forged(WORKSHOP)];
+    let [workshop, contractor, forged] = texts.map(|text| String::from_utf8(text).expect("a token's text"));
+    let long = "1".repeat(513);
+    let steps = [
+        (format!("clock {NEW_YEAR}\nswitch\nswitch\nswitch"), ""),
+        (format!("GET /relay/1/count workshop - {workshop}"), "count 3"),
+        (format!("PUT /relay/1/count workshop 100 {workshop}"), "count 100"),
+        ("switch".to_owned(), ""),
+        (format!("GET /relay/1/count contractor - {contractor}"), "count 101"),
+        (format!("PUT /relay/1/count contractor 0 {contractor}"), "refused: caveat.method"),
+        (format!("GET /relay/1/count contractor - {contractor}"), "count 101"),
+        (format!("PUT /relay/1/count workshop 0 {contractor}"), "refused: tenant.mismatch"),
+        (format!("PUT /relay/1/count workshop 0 {forged}"), "refused: mac.mismatch"),
+        (format!("PUT /relay/1/count workshop 0 {workshop}="), "refused: parse.b64"),
+        (format!("PUT /relay/1/count workshop {long} {workshop}"), "refused: caveat.bytes"),
+        (format!("put /relay/1/count workshop 0 {workshop}"), "refused: ctx.bad"),
+        ("PUT /relay/1/count workshop 0".to_owned(), "the message is not whole"),
+        (format!("PUT /relay/1/count workshop many {workshop}"), "the new count is no number"),
+        (format!("GET /relay/2/count contractor - {contractor}"), "refused: caveat.path"),
+        (format!("GET /relay/1/name contractor - {contractor}"), "there is nothing under this path"),
+        (format!("clock {}", NEW_YEAR + DAY + 301), ""),
+        (format!("GET /relay/1/count contractor - {contractor}"), "refused: caveat.exp"),
+        (format!("GET /relay/1/count workshop - {workshop}"), "count 101"),
+    ];
+    let messages = steps.iter().map(|(message, _)| format!("{message}\n")).collect();
+    let printed = steps.iter().filter(|(_, line)| !line.is_empty()).map(|(_, line)| format!("{line}\n")).collect();
+    (messages, printed)
+}
+
+fn read_only() -> Vec<u8> {
+    let get = Node::array(vec![Node::text(b"GET")]);
+    let audience = Node::text(b"relay-1");
+    let caveats =
+        [("method", get), ("aud", audience), ("exp", Node::number(NEW_YEAR + DAY))].map(|(t, v)| caveat_of(t, v));
+    narrowed(CONTRACTOR, &caveats)
+}
+
 fn token(line: &'static str, text: Vec<u8>) -> Step {
     Step { kind: TOKEN, body: text, line }
 }
@@ -202,7 +238,15 @@ fn fresh(key: (&str, &str, u8)) -> Vec<u8> {
     room
 }
 
-/// The same with these caveats.
+/// The same with one character of its tag changed, which lies in the middle of the token.
+fn forged(key: (&str, &str, u8)) -> Vec<u8> {
+    let mut text = fresh(key);
+    let at = text.len() / 2;
+    text[at] = if text[at] == b'A' { b'B' } else { b'A' };
+    text
+}
+
+/// The fresh token with these caveats.
 fn narrowed(key: (&str, &str, u8), caveats: &[Node]) -> Vec<u8> {
     caveats.iter().fold(fresh(key), |parent, caveat| {
         let mut room = vec![0; 5462];

@@ -1,4 +1,4 @@
-//! The sample in examples/: the files are what `sample-bundle` makes, and the lines are what is printed.
+//! The samples in examples/: the files are what `sample-bundle` makes, and the lines are what is printed.
 
 use std::fs;
 use std::path::Path;
@@ -16,8 +16,16 @@ fn example(name: &str) -> Vec<u8> {
 fn the_files_are_what_the_program_makes() {
     let (bundle, lines) = sample_bundle::made();
     let again = "`cargo run --release -p checks --bin sample-bundle -- ../examples` in host/ makes it anew";
-    assert!(example("sample.bundle") == bundle, "examples/sample.bundle is another one: {again}");
-    assert!(example("sample.txt") == lines.as_bytes(), "examples/sample.txt is another one: {again}");
+    let (messages, printed) = sample_bundle::service();
+    let files = [
+        ("sample.bundle", bundle),
+        ("sample.txt", lines.into_bytes()),
+        ("firmware.in", messages.into_bytes()),
+        ("firmware.txt", printed.into_bytes()),
+    ];
+    for (name, made) in files {
+        assert!(example(name) == made, "examples/{name} is another one: {again}");
+    }
 }
 
 #[test]
