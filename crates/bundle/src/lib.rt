@@ -82,9 +82,7 @@ fn walk(input: &[u8], room: &mut [u8]) -> usize
     let mut q_end: usize = 0;
     while p != input.len() {
         match records::record_at(input, p) {
-            Record::Bad => {
-                return writing::put_at(room, n, b"bundle.bad\n");
-            }
+            Record::Bad => return writing::put_at(room, n, b"bundle.bad\n"),
             Record::Of { kind, from, to } => {
                 if kind == 16 {
                     t = from;
