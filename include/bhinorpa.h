@@ -61,7 +61,8 @@ enum bhinorpa_answer {
  * measured and rounded up, not proved: host/stack/stack.c, which tools/check-c runs, calls each function on a
  * stack filled with one byte, with the longest, the deepest and the most of everything, and looks how far down
  * that byte was overwritten. On x86-64 these were 7,428 bytes for verify, 2,116 for issue, 11,316 for narrow
- * and 2,580 for the hash. An interrupt that runs on the same stack needs its own bytes besides. */
+ * and 2,580 for the hash. What is not the library's comes on top: an interrupt that runs on the same stack,
+ * and a loader that looks for memcpy at its first call only. */
 #define BHINORPA_VERIFY_STACK 8192
 #define BHINORPA_ISSUE_STACK 3072
 #define BHINORPA_NARROW_STACK 12288

@@ -150,7 +150,8 @@ fn as_many_lines_and_as_long_ones_as_a_bundle_gives() {
     let state = Bundle { records: allowed().records[..2].to_vec() };
     let left = LONGEST - state.length();
     // a7, a map of seven, is the shortest token with the longest name.
-    for (record, line) in [(&b"\0\0\x30\0"[..], "deny parse.cbor\n"), (b"\x02\0\x30\0pw", "deny schema.unknown_field\n")] {
+    let tokens = [(&b"\0\0\x30\0"[..], "deny parse.cbor\n"), (b"\x02\0\x30\0pw", "deny schema.unknown_field\n")];
+    for (record, line) in tokens {
         let count = left / record.len();
         judge.expect(&[state.laid(), record.repeat(count)].concat(), &line.repeat(count));
     }

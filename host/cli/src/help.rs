@@ -21,7 +21,8 @@ Caveats, in the order in which they are to stand: --exp TIME, --nbf TIME, --aud 
 const VERBS: [(&str, &str, &str); 9] = [
     (
         "table",
-        "Makes a key table: --new TID/KID draws a key, --row TID/KID=KEY has it in hex, --from FILE takes the\n  rows of a table that is there. Whoever has the file can make tokens: keep it as you keep keys.",
+        "Makes a key table: --new TID/KID draws a key, --row TID/KID=KEY has it in hex, --from FILE takes the
+  rows of a table that is there. Whoever has the file can make tokens: keep it as you keep keys.",
         "bhinorpa table --new workshop/kid-2025-10 --new contractor/kid-2025-11 --out keys",
     ),
     (
@@ -32,8 +33,10 @@ const VERBS: [(&str, &str, &str); 9] = [
     ("caveat", "Prints the bytes of caveats in hex, each on a line.", "bhinorpa caveat --exp 2026-01-01T00:00:00Z"),
     (
         "issue",
-        "Makes a token for a scope, and narrows it by the caveats that are there. The scope's words are those of\n  the verb scope, or --scope HEX.",
-        "bhinorpa issue --table keys --tid workshop --kid kid-2025-10 --methods GET,PUT --prefix /relay/1 --exp 2026-01-01T00:00:00Z --out token",
+        "Makes a token for a scope, and narrows it by the caveats that are there. The scope's words are those of
+  the verb scope, or --scope HEX.",
+        "bhinorpa issue --table keys --tid workshop --kid kid-2025-10 --methods GET,PUT --prefix /relay/1 \
+         --exp 2026-01-01T00:00:00Z --out token",
     ),
     (
         "narrow",
@@ -42,17 +45,22 @@ const VERBS: [(&str, &str, &str); 9] = [
     ),
     (
         "request",
-        "Makes a request: --method, --path and --tenant, and if wanted --now TIME (else this moment),\n  --body-size N, --skew SECONDS, --amnesia true, --peer 10.1.2.3, --digest HEX, --rate PER_SECOND,BURST, --aud TEXT.",
-        "bhinorpa request --now 2025-12-31T00:00:00Z --method GET --path /relay/1/count --tenant workshop --peer 10.1.2.3 --out asked",
+        "Makes a request: --method, --path and --tenant, and if wanted --now TIME (else this moment),
+  --body-size N, --skew SECONDS, --amnesia true, --peer 10.1.2.3, --digest HEX, --rate PER_SECOND,BURST,
+  --aud TEXT.",
+        "bhinorpa request --now 2025-12-31T00:00:00Z --method GET --path /relay/1/count --tenant workshop \
+         --peer 10.1.2.3 --out asked",
     ),
     (
         "verify",
-        "Prints allow, or deny and the reason's name. The request is --request FILE, or made from the words of the\n  verb request.",
+        "Prints allow, or deny and the reason's name. The request is --request FILE, or made from the words of
+  the verb request.",
         "bhinorpa verify --table keys --token child --request asked",
     ),
     (
         "show",
-        "Says in words what a file or hex holds: --table FILE (with --keys true the keys too), --request FILE,\n  --token FILE, --scope HEX or --caveat HEX.",
+        "Says in words what a file or hex holds: --table FILE (with --keys true the keys too), --request FILE,
+  --token FILE, --scope HEX or --caveat HEX.",
         "bhinorpa show --token child",
     ),
     (
@@ -63,7 +71,7 @@ const VERBS: [(&str, &str, &str); 9] = [
 ];
 
 pub fn all() -> String {
-    let verbs: String = VERBS.iter().map(|verb| of(verb)).collect();
+    let verbs: String = VERBS.iter().map(of).collect();
     format!("{FRONT}\n{verbs}\n{BEHIND}")
 }
 

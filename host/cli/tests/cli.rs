@@ -176,6 +176,11 @@ fn a_request_byte_by_byte_and_in_words() {
          rate 5,10\nmethod GET\npath /relay/1\ntenant workshop\naud relay-1\n"
     );
     assert_eq!(folder.good("show --request asked"), shown);
+}
+
+#[test]
+fn a_request_of_nothing_but_what_it_needs() {
+    let folder = Folder::new("bare");
     folder.good("request --now 7 --method A --path / --tenant t --out short");
     let bare = Fields {
         now: 7,
