@@ -42,7 +42,7 @@ pub struct Judge {
 impl Judge {
     /// `test` is a name that no other test has, for the files that are kept.
     pub fn new(test: &str) -> Judge {
-        let root = Path::new(env!("CARGO_MANIFEST_DIR")).join("../..");
+        let root = Path::new(env!("CARGO_MANIFEST_DIR")).ancestors().nth(2).expect("the repository's root");
         let program = std::env::var_os(OTHER).map_or(root.join(PROVED), PathBuf::from);
         if !program.is_file() {
             panic!("there is no program {}: `rt check judge` makes it, or {OTHER} names another", program.display());
