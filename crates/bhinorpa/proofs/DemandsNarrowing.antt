@@ -52,17 +52,18 @@ module _ (rows : List Row) (r : Request) (t : Token) (c : Caveat) where
 
   parent-holds : chainTag (keyFor rows t) t ≡ t .tag → AllHold rows r (childToken rows t c) → AllHold rows r t × (caveatHolds r (t .tid) c ≡ true)
   parent-holds e a =
-      let s = each-split r (t .tid) (t .caveats) c (a .caveats-hold) in
-      (record {
-        known = a .known;
-        tagged = e;
-        own-tenant = a .own-tenant;
-        method-holds = a .method-holds;
-        path-holds = a .path-holds;
-        bytes-hold = a .bytes-hold;
-        caveats-hold = s .0;
-      },
-      s .1)
+      let s = each-split r (t .tid) (t .caveats) c (a .caveats-hold) in (
+        record {
+          known = a .known;
+          tagged = e;
+          own-tenant = a .own-tenant;
+          method-holds = a .method-holds;
+          path-holds = a .path-holds;
+          bytes-hold = a .bytes-hold;
+          caveats-hold = s .0;
+        },
+        s .1,
+      )
 
 -- the child, handed out: its parent, the caveat, and for every well-formed request the two ways
 pub record NarrowsExactly (table text caveat child : List ℕ) : Type 0 where
@@ -106,11 +107,12 @@ narrowing-exact table text caveat child bt bc e = by (narrow-cases table text ca
           caveat-added = a;
           exactly = λ request r h.
               let vc = verify-is table request rows (p .table-is) r h child k v in
-              let vp = verify-is table request rows (p .table-is) r h text t (p .canonical) in
-              (λ z.
-              let x = parent-holds rows r t c (p .tagged) (all-passed rows r k (sym vc ∙ z)) in
-              (vp ∙ all-pass rows r t (x .0), x .1),
-              λ y. vc ∙ all-pass rows r k (child-holds rows r t c (all-passed rows r t (sym vp ∙ y .0)) (y .1)));
+              let vp = verify-is table request rows (p .table-is) r h text t (p .canonical) in (
+                λ z.
+                    let x = parent-holds rows r t c (p .tagged) (all-passed rows r k (sym vc ∙ z)) in
+                    (vp ∙ all-pass rows r t (x .0), x .1),
+                λ y. vc ∙ all-pass rows r k (child-holds rows r t c (all-passed rows r t (sym vp ∙ y .0)) (y .1)),
+              );
         }
 
 -- 34 exactly for a parent of 64 caveats; else 35 exactly for a child of over 4,096 bytes; else 36 exactly for a room shorter than the

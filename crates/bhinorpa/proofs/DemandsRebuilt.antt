@@ -193,7 +193,8 @@ pub room-enough : (text : List ℕ) (t : Token) → Canonical text t → (entry 
     → (r .answer ≡ 0) × (r .length ≡ length text) × (take (length text) exit ≡ text)
 room-enough text t c entry r exit h w =
     let l : length text ≤ 5462 = subst (λ (x : List ℕ). length x ≤ 5462) (sym (c .written)) (short-text (encodeToken t) (c .short)) in
-    let f = le-leb (length text) (length entry) (omega arith) in
-    (w .answer ∙ ap (λ (b : Bool). pick b 0 36) f,
-    w .count ∙ ap (λ (b : Bool). pick b (length text) 0) f,
-    ap (take (length text)) (w .content ∙ ap (λ (b : Bool). pick b (over text entry) entry) f) ∙ take-at text _ (length text) refl)
+    let f = le-leb (length text) (length entry) (omega arith) in (
+      w .answer ∙ ap (λ (b : Bool). pick b 0 36) f,
+      w .count ∙ ap (λ (b : Bool). pick b (length text) 0) f,
+      ap (take (length text)) (w .content ∙ ap (λ (b : Bool). pick b (over text entry) entry) f) ∙ take-at text _ (length text) refl,
+    )
