@@ -1,12 +1,11 @@
 -- The walk over a bundle's records, in the terms that the code has: one law for each way out and for each turn.
 use mathlib.Core.Path.{_≡_, refl, sym, ap, subst, _∙_}
-use mathlib.Core.Bool.{true, false}
-use mathlib.Core.List.{List, [], _∷_, _++_, append-nil, append-assoc}
+use mathlib.Core.List.{List, [], _++_, append-nil, append-assoc}
 use Prim.Native.Nat.{ℕ, zero, suc, _+_, _-_, _*_, _≤_, _<_}
 use native.Mathlib.Omega.{arith}
 use borrow.Author.Tests.{eq-eqb, ne-eqb}
 use lib.ListN.{length, length-append}
-use Rattle.basis.specs.Basis.{pick, between, IsBytes}
+use Rattle.basis.specs.Basis.{between, IsBytes}
 use Rattle.records.specs.Records.{recordAt}
 use Rattle.records.specs.declared.Record.the-variants.{Of, Bad}
 use Rattle.records.proofs.Fields.{IsRecord, record-read}

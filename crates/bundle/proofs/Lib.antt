@@ -4,3 +4,4 @@ pub mod Short
 pub mod Whole
 pub mod OneAnswer
 pub mod Example
+pub mod Numbers

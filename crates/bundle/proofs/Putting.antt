@@ -1,5 +1,5 @@
 -- One line put at a place: the words, and the byte behind them. None is longer than 27 bytes.
-use mathlib.Core.Path.{_≡_, refl, sym, ap, subst, _∙_}
+use mathlib.Core.Path.{_≡_, refl, subst}
 use mathlib.Core.List.{List, [], _∷_, _++_}
 use Prim.Native.Nat.{ℕ, _+_, _-_, _≤_}
 use native.Mathlib.Omega.{arith}
@@ -11,7 +11,7 @@ use Rattle.basis.specs.Basis.{ascii, Written}
 use Rattle.basis.proofs.Picks.{either}
 use Rattle.answers.specs.Answers.{nameOf}
 use Rattle.answers.specs.declared.Answer.{Answer}
-use Rattle.answers.proofs.Named.{InRow, told-row}
+use Rattle.answers.proofs.Named.{told-row}
 use Rattle.writing.specs.Placing.{Placed}
 use Rattle.writing.proofs.Writers.{put-placed}
 use Rattle.bundle.specs.Lines.{answerOf, wordsOf, line}

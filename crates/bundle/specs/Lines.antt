@@ -41,7 +41,7 @@ abbrev pub verifys : List Answer
 verifys =
     Allow ∷ TableBad ∷ CtxBad ∷ ParseB64 ∷ ParseCbor ∷ ParseBounds ∷ SchemaUnknownField ∷ KidUnknown ∷ MacMismatch ∷ TenantMismatch ∷ CaveatMethod ∷ CaveatPath ∷ CaveatBytes ∷ CaveatExp ∷ CaveatNbf ∷ CaveatAud ∷ CaveatIp ∷ CaveatRate ∷ CaveatTenant ∷ CaveatAmnesia ∷ CaveatPolicyDigest ∷ CaveatCustomUnknown ∷ []
 
--- the one with this number; another number is not asked for
+-- the one with this number; verify gives no other (`verify-named`), so that the last is never named
 abbrev pub withNumber : ℕ → List Answer → Answer
 withNumber n [] = HashBad
 withNumber n (a ∷ rest) = pick (eqb n (numberOf a)) a (withNumber n rest)

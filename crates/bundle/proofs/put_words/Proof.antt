@@ -1,4 +1,3 @@
-use mathlib.Core.List.{_++_}
 use Rattle.basis.specs.Basis.{ascii}
 use Rattle.answers.specs.Answers.{nameOf}
 use Rattle.writing.proofs.PlacingLaws.{shorter, placed-fits, placed-then}
