@@ -98,5 +98,5 @@ module _ (key link s : List ℕ) (p : TokenAt) (caveats caveat : List ℕ) where
     unfolding caveatThen
     caveat-whole n = rw (e, eq-eqb next (length caveat) n)
 
-pub kind-fits : (caveat : List ℕ) {kind at : ℕ} → caveatOf caveat ≡ Bad kind at → kind + 27 < 4294967296
-kind-fits caveat e = let k = caveat-kind caveat e .1 in omega arith
+pub kind-small : (caveat : List ℕ) {kind at : ℕ} → caveatOf caveat ≡ Bad kind at → kind ≤ 6
+kind-small caveat e = caveat-kind caveat e .1

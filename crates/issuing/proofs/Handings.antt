@@ -13,12 +13,12 @@ use Rattle.base64url.specs.Base64url.{base64url}
 use Rattle.base64url.specs.Writing.{Encoding}
 use Rattle.base64url.specs.declared.Encoded.{Encoded}
 use Rattle.base64url.specs.declared.Encoded.the-variants.{Text, NoRoom}
-use Rattle.issuing.specs.Handing.{Handed, refused, handed, Handing}
+use Rattle.issuing.specs.Handing.{Handed, refused, handed, refusal, Handing}
 use Rattle.issuing.specs.declared.Outcome.{Outcome}
 use Rattle.issuing.proofs.Sizes.{short-text}
 
-pub refused-is : (n : ℕ) (entry : List ℕ) → Handing (refused n) entry (record { answer = n; length = 0 }) entry
-refused-is n entry = record { answer = refl; count = refl; content = refl }
+pub refused-is : {n : ℕ} {entry : List ℕ} {r : Outcome} → r ≡ refusal n → Handing (refused n) entry r entry
+refused-is e = rw e (record { answer = refl; count = refl; content = refl })
 
 pub moved : {h k : Handed} {entry : List ℕ} {r : Outcome} {exit : List ℕ} → h ≡ k → Handing h entry r exit → Handing k entry r exit
 moved e w = rw (← e) w
@@ -41,17 +41,25 @@ module _ (bytes entry : List ℕ) {r : Encoded} {exit : List ℕ} (w : Encoding 
       let c : exit ≡ over text entry = w .content ∙ ap (λ (b : Bool). pick b (over text entry) entry) (f .0) in
       record { answer = rw (f .0); count = rw (f .0) (sym (f .1)); content = rw (f .0) c }
 
-  pub none-handed : r ≡ NoRoom → Handing (handed text) entry (record { answer = 36; length = 0 }) exit
-  none-handed e =
+  pub none-handed : r ≡ NoRoom → {o : Outcome} → o ≡ refusal 36 → Handing (handed text) entry o exit
+  none-handed e g =
       let f = none-told (leb (length text) (length entry)) refl (sym (w .answer) ∙ e) in
       let c : exit ≡ entry = w .content ∙ ap (λ (b : Bool). pick b (over text entry) entry) f in
-      record { answer = rw f; count = rw f; content = rw f c }
+      rw g (record { answer = rw f; count = rw f; content = rw f c })
 
   pub count-fits : length bytes ≤ 4096 → {n : ℕ} → r ≡ Text n → n < 2 ^ 32
   count-fits l {n} e =
       let f = fits-told e (leb (length text) (length entry)) refl (sym (w .answer) ∙ e) in
       let s = short-text bytes l in
       omega (arith, f .1)
+
+-- what a writer says that it wrote is inside of its room
+pub said-inside : (text entry : List ℕ) {r : ℕ} {exit : List ℕ} → Written text entry r exit → length exit ≡ length entry → r ≤ length exit
+said-inside text entry {r} {exit} w k = by (leb (length text) (length entry)) refl (w .counted)
+  where
+    by : (b : Bool) → leb (length text) (length entry) ≡ b → r ≡ pick b (length text) 0 → r ≤ length exit
+    by true p q = omega (arith, leb-true (length text) (length entry) p, q, k)
+    by false p q = omega (arith, q)
 
 -- a token that its room holds
 module _ (text entry : List ℕ) {r : ℕ} {exit : List ℕ} (w : Written text entry r exit) (h : length text ≤ length entry) where
@@ -60,9 +68,6 @@ module _ (text entry : List ℕ) {r : ℕ} {exit : List ℕ} (w : Written text e
 
   made-content : exit ≡ over text entry
   made-content = w .content ∙ ap (λ (b : Bool). pick b (over text entry) entry) (le-leb (length text) (length entry) h)
-
-  pub made-inside : length exit ≡ length entry → r ≤ length exit
-  made-inside k = omega (arith, made-count, k, h)
 
   pub made-lent : take (r - 0) exit ≡ text
   made-lent =

@@ -26,6 +26,10 @@ abbrev pub leftOf : Handed → List ℕ → List ℕ
 leftOf (refused n) entry = entry
 leftOf (handed text) entry = pick (leb (length text) (length entry)) (over text entry) entry
 
+-- the outcome of a check that fails
+abbrev pub refusal : ℕ → Outcome
+refusal n = record { answer = n; length = 0 }
+
 pub record Handing (h : Handed) (entry : List ℕ) (r : Outcome) (exit : List ℕ) : Type 0 where
   pub answer : r .answer ≡ answerOf h (length entry)
   pub count : r .length ≡ lengthOf h (length entry)

@@ -12,7 +12,7 @@ ghost use lib.ListN.{length};
 ghost use Rattle.base64url.specs.Base64url.{base64url};
 ghost use Rattle.caveat.specs.Reading.{caveatOf};
 ghost use Rattle.judging.specs.Ready.{Walkable, Ready};
-ghost use Rattle.issuing.specs.Handing.{Handing, handed};
+ghost use Rattle.issuing.specs.Handing.{Handing, handed, refusal};
 ghost use Rattle.issuing.specs.Issuing.{issueWith, issueOf, Issuable};
 ghost use Rattle.issuing.specs.Narrowing.{linksOf, grown, caveatThen, linkThen, lastLink, bytesThen, textThen, narrowOf};
 
@@ -23,16 +23,19 @@ pub struct Outcome {
     pub length: u32,
 }
 
+fn refusal(answer: u32) -> Outcome
+    ensures { λ r. ⌜ r ≡ refusal answer ⌝ }
+{
+    Outcome { answer, length: 0 }
+}
+
 // The text of a token's bytes, if the room holds it.
 fn write_text(bytes: &[u8], room: &mut [u8]) -> Outcome
     requires { ⌜ length (now bytes) ≤ 4096 ⌝ }
     ensures { λ r. ⌜ Handing (handed (base64url (now (bytes .entry)))) (now (room .entry)) r (now (room .exit)) ⌝ }
 {
     match base64url::encode(bytes, room) {
-        Encoded::NoRoom => Outcome {
-            answer: 36,
-            length: 0,
-        },
+        Encoded::NoRoom => refusal(36),
         Encoded::Text { n } => Outcome {
             answer: 0,
             length: n as u32,
@@ -51,10 +54,7 @@ fn issue_with(key: &[u8], tid: &[u8], kid: &[u8], scope: &[u8], room: &mut [u8])
         let n = token_writing::write_fresh(scope, &tag, kid, tid, &mut bytes);
         return write_text(&bytes[0..n], room);
     }
-    Outcome {
-        answer: 7,
-        length: 0,
-    }
+    refusal(7)
 }
 
 pub fn issue(table: &[u8], tid: &[u8], kid: &[u8], scope: &[u8], room: &mut [u8]) -> Outcome
@@ -62,10 +62,7 @@ pub fn issue(table: &[u8], tid: &[u8], kid: &[u8], scope: &[u8], room: &mut [u8]
 {
     if tables::table_ok(table) {
         return match scope::read_scope(scope, 0) {
-            ScopeParts::Bad { kind, at: _ } => Outcome {
-                answer: kind,
-                length: 0,
-            },
+            ScopeParts::Bad { kind, at: _ } => refusal(kind),
             ScopeParts::Of {
                 prefix: _,
                 count: _,
@@ -77,17 +74,11 @@ pub fn issue(table: &[u8], tid: &[u8], kid: &[u8], scope: &[u8], room: &mut [u8]
                 if next == scope.len() {
                     return issue_with(tables::find(table, tid, kid), tid, kid, scope, room);
                 }
-                Outcome {
-                    answer: 4,
-                    length: 0,
-                }
+                refusal(4)
             }
         };
     }
-    Outcome {
-        answer: 1,
-        length: 0,
-    }
+    refusal(1)
 }
 
 // The last link of a token's chain, over the caveats where they lie.
@@ -130,16 +121,10 @@ fn grow(
     ensures { λ r. ⌜ Handing (grown (now (key .entry)) link (now (s .entry)) at (now (caveats .entry)) (now (caveat .entry))) (now (room .entry)) r (now (room .exit)) ⌝ }
 {
     if 64 <= at.count {
-        return Outcome {
-            answer: 34,
-            length: 0,
-        };
+        return refusal(34);
     }
     if 4096 < caveat.len() {
-        return Outcome {
-            answer: 35,
-            length: 0,
-        };
+        return refusal(35);
     }
     let tag = chain::next_link(key, link, caveat);
     let scope = basis::part(s, at.scope, at.scope_end);
@@ -157,10 +142,7 @@ fn grow(
         &mut bytes,
     );
     if n == 0 {
-        return Outcome {
-            answer: 35,
-            length: 0,
-        };
+        return refusal(35);
     }
     write_text(&bytes[0..n], room)
 }
@@ -179,18 +161,12 @@ fn add_caveat(
     ensures { λ r. ⌜ Handing (caveatThen (now (key .entry)) link (now (s .entry)) at (now (caveats .entry)) (now (caveat .entry)) (caveatOf (now (caveat .entry)))) (now (room .entry)) r (now (room .exit)) ⌝ }
 {
     match caveat::read_caveat(caveat) {
-        CaveatParts::Bad { kind, at: _ } => Outcome {
-            answer: kind + 27,
-            length: 0,
-        },
+        CaveatParts::Bad { kind, at: _ } => refusal(kind + 27),
         CaveatParts::Of { caveat: _, next } => {
             if next == caveat.len() {
                 return grow(key, link, s, at, caveats, caveat, room);
             }
-            Outcome {
-                answer: 31,
-                length: 0,
-            }
+            refusal(31)
         }
     }
 }
@@ -214,10 +190,7 @@ fn narrow_with(
     if judging::same_tag(link, basis::run(s, at.tag, 32)) {
         return add_caveat(key, link, s, at, caveats, caveat, room);
     }
-    Outcome {
-        answer: 8,
-        length: 0,
-    }
+    refusal(8)
 }
 
 fn narrow_bytes(table: &[u8], s: &[u8], caveat: &[u8], room: &mut [u8]) -> Outcome
@@ -225,10 +198,7 @@ fn narrow_bytes(table: &[u8], s: &[u8], caveat: &[u8], room: &mut [u8]) -> Outco
     ensures { λ r. ⌜ Handing (bytesThen (now (table .entry)) (now (s .entry)) (now (caveat .entry))) (now (room .entry)) r (now (room .exit)) ⌝ }
 {
     match token::read_token(s) {
-        TokenParts::Bad { kind, at: _ } => Outcome {
-            answer: kind,
-            length: 0,
-        },
+        TokenParts::Bad { kind, at: _ } => refusal(kind),
         TokenParts::Of {
             count,
             from,
@@ -241,11 +211,9 @@ fn narrow_bytes(table: &[u8], s: &[u8], caveat: &[u8], room: &mut [u8]) -> Outco
             tid,
             tid_end,
         } => {
-            let key = tables::find(
-                table,
-                basis::part(s, tid, tid_end),
-                basis::part(s, kid, kid_end),
-            );
+            let tid_bytes = basis::part(s, tid, tid_end);
+            let kid_bytes = basis::part(s, kid, kid_end);
+            let key = tables::find(table, tid_bytes, kid_bytes);
             if key.len() == 32 {
                 let at = TokenAt {
                     count,
@@ -260,10 +228,7 @@ fn narrow_bytes(table: &[u8], s: &[u8], caveat: &[u8], room: &mut [u8]) -> Outco
                 };
                 return narrow_with(key, s, at, basis::part(s, from, to), caveat, room);
             }
-            Outcome {
-                answer: 7,
-                length: 0,
-            }
+            refusal(7)
         }
     }
 }
@@ -272,21 +237,12 @@ fn narrow_text(table: &[u8], text: &[u8], caveat: &[u8], room: &mut [u8]) -> Out
     ensures { λ r. ⌜ Handing (textThen (now (table .entry)) (now (text .entry)) (now (caveat .entry))) (now (room .entry)) r (now (room .exit)) ⌝ }
 {
     if 5462 < text.len() {
-        return Outcome {
-            answer: 5,
-            length: 0,
-        };
+        return refusal(5);
     }
     let mut bytes: [u8; 4096] = [0; 4096];
     match base64url::decode(text, &mut bytes) {
-        Decoded::Bad { at: _ } => Outcome {
-            answer: 3,
-            length: 0,
-        },
-        Decoded::Short => Outcome {
-            answer: 5,
-            length: 0,
-        },
+        Decoded::Bad { at: _ } => refusal(3),
+        Decoded::Short => refusal(5),
         Decoded::Bytes { n } => narrow_bytes(table, &bytes[0..n], caveat, room),
     }
 }
@@ -297,8 +253,5 @@ pub fn narrow(table: &[u8], token: &[u8], caveat: &[u8], room: &mut [u8]) -> Out
     if tables::table_ok(table) {
         return narrow_text(table, token, caveat, room);
     }
-    Outcome {
-        answer: 1,
-        length: 0,
-    }
+    refusal(1)
 }

@@ -1,6 +1,7 @@
 use mathlib.Core.Path.{sym, _∙_}
+use native.Mathlib.Omega.{arith}
 use Rattle.issuing.proofs.Handings.{refused-is, moved}
-use Rattle.issuing.proofs.Growing.{caveat-bad, caveat-left-over, caveat-whole, kind-fits}
+use Rattle.issuing.proofs.Growing.{caveat-bad, caveat-left-over, caveat-whole, kind-small}
 use borrow.Author.Needs.{needs}
 use Rattle.issuing.proofs.add_caveat.Statement.{statement}
 use Rattle.issuing.proofs.add_caveat.Tie as tie
@@ -8,6 +9,7 @@ use Rattle.issuing.proofs.add_caveat.Reads as reads
 use Rattle.issuing.proofs.add_caveat.Lts as lts
 use Rattle.caveat.proofs.read_caveat.Reads as read-caveat-reads
 use Rattle.issuing.proofs.grow.Reads as grow-reads
+use Rattle.issuing.proofs.refusal.Reads as refusal-reads
 
 read-caveat-requires : tie.Need-read-caveat-requires
 read-caveat-requires c κs = search needs
@@ -15,8 +17,11 @@ read-caveat-requires c κs = search needs
 enum-known-kind : tie.Need-enum-known-kind
 enum-known-kind c = search needs
 
-add-t12 : tie.Need-add-t12
-add-t12 c = record { fits = kind-fits _ (sym (c .before .before .before .read-caveat .ensures) ∙ c .before .kind .given .1) }
+add-refusal : tie.Need-add-refusal
+add-refusal c = record { fits = omega (arith, kind-small _ (sym (c .before .before .before .read-caveat .ensures) ∙ c .before .kind .given .1)) }
+
+refusal-requires : tie.Need-refusal-requires
+refusal-requires c κs = search needs
 
 enum-known-next : tie.Need-enum-known-next
 enum-known-next c = search needs
@@ -30,11 +35,14 @@ same-length c = search needs
 returns : tie.Need-returns
 returns c = moved (caveat-whole (c .before .before .before .before .before .before .before .before .before .before .before .before .before .before .args .key .now) (c .before .before .before .before .before .before .before .before .before .before .before .before .before .before .args .link) (c .before .before .before .before .before .before .before .before .before .before .before .before .before .before .args .s .now) (c .before .before .before .before .before .before .before .before .before .before .before .before .before .before .args .at) (c .before .before .before .before .before .before .before .before .before .before .before .before .before .before .args .caveats .now) (c .before .before .before .before .before .before .before .before .before .before .before .before .before .before .args .caveat .now) (sym (c .before .before .before .before .before .before .before .before .read-caveat .ensures) ∙ c .before .before .before .before .before .before .next .given .1) (c .before .before .before .before .if1 .taken)) (c .before .before .grow .ensures)
 
+refusal-requires-2 : tie.Need-refusal-requires-2
+refusal-requires-2 c κs = search needs
+
 returns-2 : tie.Need-returns-2
-returns-2 c = moved (caveat-bad (c .before .before .before .before .before .before .before .before .before .args .key .now) (c .before .before .before .before .before .before .before .before .before .args .link) (c .before .before .before .before .before .before .before .before .before .args .s .now) (c .before .before .before .before .before .before .before .before .before .args .at) (c .before .before .before .before .before .before .before .before .before .args .caveats .now) (c .before .before .before .before .before .before .before .before .before .args .caveat .now) (sym (c .before .before .before .read-caveat .ensures) ∙ c .before .kind .given .1)) (refused-is _ _)
+returns-2 c = moved (caveat-bad (c .before .before .before .before .before .before .before .before .before .before .args .key .now) (c .before .before .before .before .before .before .before .before .before .before .args .link) (c .before .before .before .before .before .before .before .before .before .before .args .s .now) (c .before .before .before .before .before .before .before .before .before .before .args .at) (c .before .before .before .before .before .before .before .before .before .before .args .caveats .now) (c .before .before .before .before .before .before .before .before .before .before .args .caveat .now) (sym (c .before .before .before .before .read-caveat .ensures) ∙ c .before .before .kind .given .1)) (refused-is (c .refusal .ensures))
 
 returns-3 : tie.Need-returns-3
-returns-3 c = moved (caveat-left-over (c .before .before .before .before .before .before .before .before .before .before .args .key .now) (c .before .before .before .before .before .before .before .before .before .before .args .link) (c .before .before .before .before .before .before .before .before .before .before .args .s .now) (c .before .before .before .before .before .before .before .before .before .before .args .at) (c .before .before .before .before .before .before .before .before .before .before .args .caveats .now) (c .before .before .before .before .before .before .before .before .before .before .args .caveat .now) (sym (c .before .before .before .before .read-caveat .ensures) ∙ c .before .before .next .given .1) (c .if1 .left)) (refused-is 31 _)
+returns-3 c = moved (caveat-left-over (c .before .before .before .before .before .before .before .before .before .before .before .args .key .now) (c .before .before .before .before .before .before .before .before .before .before .before .args .link) (c .before .before .before .before .before .before .before .before .before .before .before .args .s .now) (c .before .before .before .before .before .before .before .before .before .before .before .args .at) (c .before .before .before .before .before .before .before .before .before .before .before .args .caveats .now) (c .before .before .before .before .before .before .before .before .before .before .before .args .caveat .now) (sym (c .before .before .before .before .before .read-caveat .ensures) ∙ c .before .before .before .next .given .1) (c .before .if1 .left)) (refused-is (c .refusal2 .ensures))
 
 pub add-caveat-spec : {M : Type 1} → statement M
 add-caveat-spec =
@@ -42,10 +50,12 @@ add-caveat-spec =
     (tie.spec
     read-caveat-requires
     enum-known-kind
-    add-t12
+    add-refusal
+    refusal-requires
     enum-known-next
     grow-requires
     same-length
     returns
+    refusal-requires-2
     returns-2
     returns-3)

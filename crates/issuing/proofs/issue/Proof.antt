@@ -7,6 +7,7 @@ use Rattle.issuing.proofs.issue.Tie as tie
 use Rattle.issuing.proofs.issue.Reads as reads
 use Rattle.issuing.proofs.issue.Lts as lts
 use Rattle.issuing.proofs.issue_with.Reads as issue-with-reads
+use Rattle.issuing.proofs.refusal.Reads as refusal-reads
 use Rattle.scope.proofs.read_scope.Reads as read-scope-reads
 use Rattle.tables.proofs.find.Reads as find-reads
 use Rattle.tables.proofs.table_ok.Reads as table-ok-reads
@@ -19,6 +20,9 @@ read-scope-requires c κs = search needs
 
 enum-known-kind : tie.Need-enum-known-kind
 enum-known-kind c = search needs
+
+refusal-requires : tie.Need-refusal-requires
+refusal-requires c κs = search needs
 
 enum-known-next : tie.Need-enum-known-next
 enum-known-next c = search needs
@@ -35,14 +39,20 @@ same-length c = search needs
 returns : tie.Need-returns
 returns c = moved (issue-found (c .before .before .before .before .before .before .before .before .before .before .before .before .before .before .before .before .before .args .table .now) (c .before .before .before .before .before .before .before .before .before .before .before .before .before .before .before .before .before .args .tid .now) (c .before .before .before .before .before .before .before .before .before .before .before .before .before .before .before .before .before .args .kid .now) (c .before .before .before .before .before .before .before .before .before .before .before .before .before .before .before .before .before .args .scope .now) (sym (c .before .before .before .before .before .before .before .before .before .before .before .table-ok .ensures) ∙ c .before .before .before .before .before .before .before .before .before .before .if1 .taken) (sym (c .before .before .before .before .before .before .before .before .before .read-scope .ensures) ∙ c .before .before .before .before .before .before .before .next .given .1) (c .before .before .before .before .before .if2 .taken) (c .before .before .before .before .find .ensures)) (c .before .before .issue-with .ensures)
 
+refusal-requires-2 : tie.Need-refusal-requires-2
+refusal-requires-2 c κs = search needs
+
 returns-2 : tie.Need-returns-2
-returns-2 c = moved (issue-bad-scope (c .before .before .before .before .before .before .before .before .before .before .before .args .table .now) (c .before .before .before .before .before .before .before .before .before .before .before .args .tid .now) (c .before .before .before .before .before .before .before .before .before .before .before .args .kid .now) (c .before .before .before .before .before .before .before .before .before .before .before .args .scope .now) (sym (c .before .before .before .before .before .table-ok .ensures) ∙ c .before .before .before .before .if1 .taken) (sym (c .before .before .before .read-scope .ensures) ∙ c .before .kind .given .1)) (refused-is _ _)
+returns-2 c = moved (issue-bad-scope (c .before .before .before .before .before .before .before .before .before .before .before .before .args .table .now) (c .before .before .before .before .before .before .before .before .before .before .before .before .args .tid .now) (c .before .before .before .before .before .before .before .before .before .before .before .before .args .kid .now) (c .before .before .before .before .before .before .before .before .before .before .before .before .args .scope .now) (sym (c .before .before .before .before .before .before .table-ok .ensures) ∙ c .before .before .before .before .before .if1 .taken) (sym (c .before .before .before .before .read-scope .ensures) ∙ c .before .before .kind .given .1)) (refused-is (c .refusal .ensures))
 
 returns-3 : tie.Need-returns-3
-returns-3 c = moved (issue-left-over (c .before .before .before .before .before .before .before .before .before .before .before .before .args .table .now) (c .before .before .before .before .before .before .before .before .before .before .before .before .args .tid .now) (c .before .before .before .before .before .before .before .before .before .before .before .before .args .kid .now) (c .before .before .before .before .before .before .before .before .before .before .before .before .args .scope .now) (sym (c .before .before .before .before .before .before .table-ok .ensures) ∙ c .before .before .before .before .before .if1 .taken) (sym (c .before .before .before .before .read-scope .ensures) ∙ c .before .before .next .given .1) (c .if2 .left)) (refused-is 4 _)
+returns-3 c = moved (issue-left-over (c .before .before .before .before .before .before .before .before .before .before .before .before .before .args .table .now) (c .before .before .before .before .before .before .before .before .before .before .before .before .before .args .tid .now) (c .before .before .before .before .before .before .before .before .before .before .before .before .before .args .kid .now) (c .before .before .before .before .before .before .before .before .before .before .before .before .before .args .scope .now) (sym (c .before .before .before .before .before .before .before .table-ok .ensures) ∙ c .before .before .before .before .before .before .if1 .taken) (sym (c .before .before .before .before .before .read-scope .ensures) ∙ c .before .before .before .next .given .1) (c .before .if2 .left)) (refused-is (c .refusal2 .ensures))
+
+refusal-requires-3 : tie.Need-refusal-requires-3
+refusal-requires-3 c κs = search needs
 
 returns-4 : tie.Need-returns-4
-returns-4 c = moved (issue-bad-table (c .before .before .before .before .before .before .before .args .table .now) (c .before .before .before .before .before .before .before .args .tid .now) (c .before .before .before .before .before .before .before .args .kid .now) (c .before .before .before .before .before .before .before .args .scope .now) (sym (c .before .table-ok .ensures) ∙ c .if1 .left)) (refused-is 1 _)
+returns-4 c = moved (issue-bad-table (c .before .before .before .before .before .before .before .before .args .table .now) (c .before .before .before .before .before .before .before .before .args .tid .now) (c .before .before .before .before .before .before .before .before .args .kid .now) (c .before .before .before .before .before .before .before .before .args .scope .now) (sym (c .before .before .table-ok .ensures) ∙ c .before .if1 .left)) (refused-is (c .refusal3 .ensures))
 
 pub issue-spec : {M : Type 1} → statement M
 issue-spec =
@@ -51,11 +61,14 @@ issue-spec =
     table-ok-requires
     read-scope-requires
     enum-known-kind
+    refusal-requires
     enum-known-next
     find-requires
     issue-with-requires
     same-length
     returns
+    refusal-requires-2
     returns-2
     returns-3
+    refusal-requires-3
     returns-4)

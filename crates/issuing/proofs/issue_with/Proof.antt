@@ -1,7 +1,7 @@
-use Prim.Native.Nat.{ℕ, _≤_}
+use Prim.Native.Nat.{ℕ}
 use native.Mathlib.Omega.{arith}
-use lib.ListN.{length-replicate}
-use Rattle.issuing.proofs.Handings.{refused-is, moved, made-inside, made-lent}
+use lib.ListN.{length-replicate, length-take}
+use Rattle.issuing.proofs.Handings.{refused-is, moved, said-inside, made-lent}
 use Rattle.issuing.proofs.Fresh.{first-of, fresh-fits, issued, key-missing}
 use borrow.Author.Needs.{needs}
 use Rattle.issuing.proofs.issue_with.Statement.{statement}
@@ -9,11 +9,9 @@ use Rattle.issuing.proofs.issue_with.Tie as tie
 use Rattle.issuing.proofs.issue_with.Reads as reads
 use Rattle.issuing.proofs.issue_with.Lts as lts
 use Rattle.chain.proofs.first_link.Reads as first-link-reads
+use Rattle.issuing.proofs.refusal.Reads as refusal-reads
 use Rattle.issuing.proofs.write_text.Reads as write-text-reads
 use Rattle.token_writing.proofs.write_fresh.Reads as write-fresh-reads
-
-most : {n : ℕ} → n ≤ 752 → n ≤ 4096
-most h = omega arith
 
 first-link-requires : tie.Need-first-link-requires
 first-link-requires c κs = first-of (c .before .before .before .before .before .before .args .key .now) (c .before .before .before .before .before .before .args .tid .now) (c .before .before .before .before .before .before .args .kid .now) (c .before .before .before .before .before .before .args .scope .now) (c .before .before .before .before .before .before .pre) (c .if1 .taken)
@@ -34,10 +32,10 @@ part-write-text-start : tie.Need-part-write-text-start
 part-write-text-start c = search needs
 
 part-write-text-end : tie.Need-part-write-text-end
-part-write-text-end c = made-inside _ _ (c .before .before .write-fresh .ensures) (rw (length-replicate {A = ℕ} 752 0) (fresh-fits (c .before .before .before .before .before .before .before .before .before .before .before .before .args .key .now) (c .before .before .before .before .before .before .before .before .before .before .before .before .args .tid .now) (c .before .before .before .before .before .before .before .before .before .before .before .before .args .kid .now) (c .before .before .before .before .before .before .before .before .before .before .before .before .args .scope .now) (c .before .before .before .before .before .before .before .before .before .before .before .before .pre) (c .before .before .before .before .before .before .if1 .taken) (c .before .before .before .before .before .first-link .ensures))) (c .before .before .write-fresh .kept .1 .1 .1 .1 .0)
+part-write-text-end c = omega (arith, said-inside _ _ (c .before .before .write-fresh .ensures) (c .before .before .write-fresh .kept .1 .1 .1 .1 .0))
 
 write-text-requires : tie.Need-write-text-requires
-write-text-requires c κs = rw (made-lent _ _ (c .before .before .before .before .write-fresh .ensures) (rw (length-replicate {A = ℕ} 752 0) (fresh-fits (c .before .before .before .before .before .before .before .before .before .before .before .before .before .before .args .key .now) (c .before .before .before .before .before .before .before .before .before .before .before .before .before .before .args .tid .now) (c .before .before .before .before .before .before .before .before .before .before .before .before .before .before .args .kid .now) (c .before .before .before .before .before .before .before .before .before .before .before .before .before .before .args .scope .now) (c .before .before .before .before .before .before .before .before .before .before .before .before .before .before .pre) (c .before .before .before .before .before .before .before .before .if1 .taken) (c .before .before .before .before .before .before .before .first-link .ensures)))) (most (fresh-fits (c .before .before .before .before .before .before .before .before .before .before .before .before .before .before .args .key .now) (c .before .before .before .before .before .before .before .before .before .before .before .before .before .before .args .tid .now) (c .before .before .before .before .before .before .before .before .before .before .before .before .before .before .args .kid .now) (c .before .before .before .before .before .before .before .before .before .before .before .before .before .before .args .scope .now) (c .before .before .before .before .before .before .before .before .before .before .before .before .before .before .pre) (c .before .before .before .before .before .before .before .before .if1 .taken) (c .before .before .before .before .before .before .before .first-link .ensures)))
+write-text-requires c κs = simp length-take (omega (arith, c .before .before .before .before .write-fresh .kept .1 .1 .1 .1 .0, length-replicate {A = ℕ} 752 0))
 
 same-length : tie.Need-same-length
 same-length c = search needs
@@ -45,8 +43,11 @@ same-length c = search needs
 returns : tie.Need-returns
 returns c = moved (issued (c .before .before .before .before .before .before .before .before .before .before .before .before .before .before .before .before .before .args .key .now) (c .before .before .before .before .before .before .before .before .before .before .before .before .before .before .before .before .before .args .tid .now) (c .before .before .before .before .before .before .before .before .before .before .before .before .before .before .before .before .before .args .kid .now) (c .before .before .before .before .before .before .before .before .before .before .before .before .before .before .before .before .before .args .scope .now) (c .before .before .before .before .before .before .before .before .before .before .before .if1 .taken) (c .before .before .before .before .before .before .before .before .before .before .first-link .ensures) (made-lent _ _ (c .before .before .before .before .before .before .before .write-fresh .ensures) (rw (length-replicate {A = ℕ} 752 0) (fresh-fits (c .before .before .before .before .before .before .before .before .before .before .before .before .before .before .before .before .before .args .key .now) (c .before .before .before .before .before .before .before .before .before .before .before .before .before .before .before .before .before .args .tid .now) (c .before .before .before .before .before .before .before .before .before .before .before .before .before .before .before .before .before .args .kid .now) (c .before .before .before .before .before .before .before .before .before .before .before .before .before .before .before .before .before .args .scope .now) (c .before .before .before .before .before .before .before .before .before .before .before .before .before .before .before .before .before .pre) (c .before .before .before .before .before .before .before .before .before .before .before .if1 .taken) (c .before .before .before .before .before .before .before .before .before .before .first-link .ensures))))) (c .before .before .write-text .ensures)
 
+refusal-requires : tie.Need-refusal-requires
+refusal-requires c κs = search needs
+
 returns-2 : tie.Need-returns-2
-returns-2 c = moved (key-missing (c .before .before .before .before .before .before .args .key .now) (c .before .before .before .before .before .before .args .tid .now) (c .before .before .before .before .before .before .args .kid .now) (c .before .before .before .before .before .before .args .scope .now) (c .if1 .left)) (refused-is 7 _)
+returns-2 c = moved (key-missing (c .before .before .before .before .before .before .before .args .key .now) (c .before .before .before .before .before .before .before .args .tid .now) (c .before .before .before .before .before .before .before .args .kid .now) (c .before .before .before .before .before .before .before .args .scope .now) (c .before .if1 .left)) (refused-is (c .refusal .ensures))
 
 pub issue-with-spec : {M : Type 1} → statement M
 issue-with-spec =
@@ -62,4 +63,5 @@ issue-with-spec =
     write-text-requires
     same-length
     returns
+    refusal-requires
     returns-2)

@@ -1,6 +1,7 @@
 use mathlib.Core.Path.{refl, sym, _∙_}
+use native.Mathlib.Omega.{arith}
+use lib.ListN.{length-take, length-drop}
 use borrow.Author.Needs.{needs}
-use Rattle.judging.proofs.Walking.{piece-next}
 use Rattle.issuing.proofs.Linking.{Linking, linked-all, link-bad, link-range, link-one}
 use Rattle.issuing.proofs.links.Statement.{statement}
 use Rattle.issuing.proofs.links.Tie as tie
@@ -48,7 +49,7 @@ part-requires : tie.Need-part-requires Inv-loop μ-loop
 part-requires c κs = search needs
 
 next-link-requires : tie.Need-next-link-requires Inv-loop μ-loop
-next-link-requires c κs = piece-next (c .before .before .before .before .before .before .before .before .before .before .before .args .key .now) (c .before .before .before .before .before .before .before .before .before .before .before .args .s .now) _ (c .before .before .before .before .before .before .least .result) (c .before .before .next .given .0 .1 .0) (c .before .before .before .before .before .before .before .before .before .before .before .pre) (c .part2 .ensures)
+next-link-requires c κs = record { keyed = c .before .before .before .before .before .before .before .before .before .before .before .pre .key-long; narrow = rw (c .part2 .ensures) (simp (length-take, length-drop) (omega (arith, c .before .before .before .before .before .before .before .before .before .before .before .pre .short))) }
 
 add-p : tie.Need-add-p Inv-loop μ-loop
 add-p c = record { fits = link-range (c .before .before .before .before .before .before .before .before .before .before .before .before .args .s .now) (c .before .before .before .before .before .before .before .before .before .before .before .before .args .key .now) (c .before .before .before .before .before .before .before .before .before .before .before .before .args .from) (c .before .before .before .before .before .before .before .before .before .before .before .before .args .count) (c .before .before .before .before .before .before .before .before .before .before .before .before .args .first) (c .before .before .before .before .before .before .before .before .before .loop .p) (c .before .before .before .before .before .before .before .before .before .loop .k) (c .before .before .before .before .before .before .before .before .before .loop .link) (c .before .before .before .before .before .before .before .before .before .loop .inv) (c .before .before .before .before .before .before .before .before .loop-test .taken) _ (c .before .before .before .before .before .before .before .least .ensures) (sym (c .before .before .before .before .before .read-caveat .ensures) ∙ c .before .before .before .next .given .1) (c .before .before .before .before .before .before .before .before .before .before .before .before .good .0 .0) }

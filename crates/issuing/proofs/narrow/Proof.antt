@@ -7,6 +7,7 @@ use Rattle.issuing.proofs.narrow.Tie as tie
 use Rattle.issuing.proofs.narrow.Reads as reads
 use Rattle.issuing.proofs.narrow.Lts as lts
 use Rattle.issuing.proofs.narrow_text.Reads as narrow-text-reads
+use Rattle.issuing.proofs.refusal.Reads as refusal-reads
 use Rattle.tables.proofs.table_ok.Reads as table-ok-reads
 
 table-ok-requires : tie.Need-table-ok-requires
@@ -21,9 +22,19 @@ same-length c = search needs
 returns : tie.Need-returns
 returns c = moved (narrow-good-table (c .before .before .before .before .before .before .before .before .before .before .args .table .now) (c .before .before .before .before .before .before .before .before .before .before .args .token .now) (c .before .before .before .before .before .before .before .before .before .before .args .caveat .now) (sym (c .before .before .before .before .before .table-ok .ensures) ∙ c .before .before .before .before .if1 .taken)) (c .before .before .narrow-text .ensures)
 
+refusal-requires : tie.Need-refusal-requires
+refusal-requires c κs = search needs
+
 returns-2 : tie.Need-returns-2
-returns-2 c = moved (narrow-bad-table (c .before .before .before .before .before .before .args .table .now) (c .before .before .before .before .before .before .args .token .now) (c .before .before .before .before .before .before .args .caveat .now) (sym (c .before .table-ok .ensures) ∙ c .if1 .left)) (refused-is 1 _)
+returns-2 c = moved (narrow-bad-table (c .before .before .before .before .before .before .before .args .table .now) (c .before .before .before .before .before .before .before .args .token .now) (c .before .before .before .before .before .before .before .args .caveat .now) (sym (c .before .before .table-ok .ensures) ∙ c .before .if1 .left)) (refused-is (c .refusal .ensures))
 
 pub narrow-spec : {M : Type 1} → statement M
 narrow-spec =
-    tie.close (tie.spec table-ok-requires narrow-text-requires same-length returns returns-2)
+    tie.close
+    (tie.spec
+    table-ok-requires
+    narrow-text-requires
+    same-length
+    returns
+    refusal-requires
+    returns-2)

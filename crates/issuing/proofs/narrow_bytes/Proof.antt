@@ -9,6 +9,7 @@ use Rattle.issuing.proofs.narrow_bytes.Reads as reads
 use Rattle.issuing.proofs.narrow_bytes.Lts as lts
 use Rattle.basis.proofs.part.Reads as part-reads
 use Rattle.issuing.proofs.narrow_with.Reads as narrow-with-reads
+use Rattle.issuing.proofs.refusal.Reads as refusal-reads
 use Rattle.tables.proofs.find.Reads as find-reads
 use Rattle.token.proofs.read_token.Reads as read-token-reads
 
@@ -17,6 +18,9 @@ read-token-requires c κs = search needs
 
 enum-known-kind : tie.Need-enum-known-kind
 enum-known-kind c = search needs
+
+refusal-requires : tie.Need-refusal-requires
+refusal-requires c κs = search needs
 
 enum-known-count : tie.Need-enum-known-count
 enum-known-count c = search needs
@@ -42,11 +46,14 @@ same-length c = search needs
 returns : tie.Need-returns
 returns c = moved (narrow-found (c .before .before .before .before .before .before .before .before .before .before .before .before .before .before .before .before .before .args .table .now) (c .before .before .before .before .before .before .before .before .before .before .before .before .before .before .before .before .before .args .s .now) (c .before .before .before .before .before .before .before .before .before .before .before .before .before .before .before .before .before .args .caveat .now) (sym (c .before .before .before .before .before .before .before .before .before .before .before .before .read-token .ensures) ∙ c .before .before .before .before .before .before .before .before .before .before .count .given .1) (c .before .before .before .before .before .before .before .before .part .ensures) (c .before .before .before .before .before .before .before .part2 .ensures) (c .before .before .before .before .before .before .find .ensures) (c .before .before .before .before .before .if1 .taken) (c .before .before .before .before .part3 .ensures)) (c .before .before .narrow-with .ensures)
 
+refusal-requires-2 : tie.Need-refusal-requires-2
+refusal-requires-2 c κs = search needs
+
 returns-2 : tie.Need-returns-2
-returns-2 c = moved (narrow-unreadable (c .before .before .before .before .before .before .before .before .args .table .now) (c .before .before .before .before .before .before .before .before .args .s .now) (c .before .before .before .before .before .before .before .before .args .caveat .now) (sym (c .before .before .before .read-token .ensures) ∙ c .before .kind .given .1)) (refused-is _ _)
+returns-2 c = moved (narrow-unreadable (c .before .before .before .before .before .before .before .before .before .args .table .now) (c .before .before .before .before .before .before .before .before .before .args .s .now) (c .before .before .before .before .before .before .before .before .before .args .caveat .now) (sym (c .before .before .before .before .read-token .ensures) ∙ c .before .before .kind .given .1)) (refused-is (c .refusal .ensures))
 
 returns-3 : tie.Need-returns-3
-returns-3 c = moved (narrow-no-key (c .before .before .before .before .before .before .before .before .before .before .before .before .args .table .now) (c .before .before .before .before .before .before .before .before .before .before .before .before .args .s .now) (c .before .before .before .before .before .before .before .before .before .before .before .before .args .caveat .now) (sym (c .before .before .before .before .before .before .before .read-token .ensures) ∙ c .before .before .before .before .before .count .given .1) (c .before .before .before .part .ensures) (c .before .before .part2 .ensures) (c .before .find .ensures) (c .if1 .left)) (refused-is 7 _)
+returns-3 c = moved (narrow-no-key (c .before .before .before .before .before .before .before .before .before .before .before .before .before .args .table .now) (c .before .before .before .before .before .before .before .before .before .before .before .before .before .args .s .now) (c .before .before .before .before .before .before .before .before .before .before .before .before .before .args .caveat .now) (sym (c .before .before .before .before .before .before .before .before .read-token .ensures) ∙ c .before .before .before .before .before .before .count .given .1) (c .before .before .before .before .part .ensures) (c .before .before .before .part2 .ensures) (c .before .before .find .ensures) (c .before .if1 .left)) (refused-is (c .refusal2 .ensures))
 
 pub narrow-bytes-spec : {M : Type 1} → statement M
 narrow-bytes-spec =
@@ -54,6 +61,7 @@ narrow-bytes-spec =
     (tie.spec
     read-token-requires
     enum-known-kind
+    refusal-requires
     enum-known-count
     part-requires
     part-requires-2
@@ -62,5 +70,6 @@ narrow-bytes-spec =
     narrow-with-requires
     same-length
     returns
+    refusal-requires-2
     returns-2
     returns-3)

@@ -10,9 +10,13 @@ use Rattle.issuing.proofs.narrow_text.Reads as reads
 use Rattle.issuing.proofs.narrow_text.Lts as lts
 use Rattle.base64url.proofs.decode.Reads as decode-reads
 use Rattle.issuing.proofs.narrow_bytes.Reads as narrow-bytes-reads
+use Rattle.issuing.proofs.refusal.Reads as refusal-reads
+
+refusal-requires : tie.Need-refusal-requires
+refusal-requires c κs = search needs
 
 returns : tie.Need-returns
-returns c = moved (narrow-too-long (c .before .before .before .before .before .args .table .now) (c .before .before .before .before .before .args .text .now) (c .before .before .before .before .before .args .caveat .now) (c .if1 .taken)) (refused-is 5 _)
+returns c = moved (narrow-too-long (c .before .before .before .before .before .before .args .table .now) (c .before .before .before .before .before .before .args .text .now) (c .before .before .before .before .before .before .args .caveat .now) (c .before .if1 .taken)) (refused-is (c .refusal .ensures))
 
 slice-aggregate-decode : tie.Need-slice-aggregate-decode
 slice-aggregate-decode c = search needs
@@ -23,8 +27,14 @@ decode-requires c κs = search needs
 enum-told : tie.Need-enum-told
 enum-told c = search needs
 
+refusal-requires-2 : tie.Need-refusal-requires-2
+refusal-requires-2 c κs = search needs
+
 enum-told-2 : tie.Need-enum-told-2
 enum-told-2 c = search needs
+
+refusal-requires-3 : tie.Need-refusal-requires-3
+refusal-requires-3 c κs = search needs
 
 enum-known-n : tie.Need-enum-known-n
 enum-known-n c = search needs
@@ -42,10 +52,10 @@ narrow-bytes-requires : tie.Need-narrow-bytes-requires
 narrow-bytes-requires c κs = lent-short _ _ _ _ (c .before .before .before .before .before .before .before .decode .ensures) (c .before .before .before .before .n .given .1) (length-replicate {A = ℕ} 4096 0)
 
 returns-2 : tie.Need-returns-2
-returns-2 c = moved (narrow-not-text (c .before .before .before .before .before .before .before .before .before .before .args .table .now) (c .before .before .before .before .before .before .before .before .before .before .args .text .now) (c .before .before .before .before .before .before .before .before .before .before .args .caveat .now) (c .before .before .before .before .before .if1 .left) _ (length-replicate {A = ℕ} 4096 0) _ _ (c .before .before .before .decode .ensures) (c .enum-told .given .1)) (refused-is 3 _)
+returns-2 c = moved (narrow-not-text (c .before .before .before .before .before .before .before .before .before .before .before .args .table .now) (c .before .before .before .before .before .before .before .before .before .before .before .args .text .now) (c .before .before .before .before .before .before .before .before .before .before .before .args .caveat .now) (c .before .before .before .before .before .before .if1 .left) _ (length-replicate {A = ℕ} 4096 0) _ _ (c .before .before .before .before .decode .ensures) (c .before .enum-told .given .1)) (refused-is (c .refusal2 .ensures))
 
 returns-3 : tie.Need-returns-3
-returns-3 c = moved (narrow-no-room (c .before .before .before .before .before .before .before .before .before .before .args .table .now) (c .before .before .before .before .before .before .before .before .before .before .args .text .now) (c .before .before .before .before .before .before .before .before .before .before .args .caveat .now) (c .before .before .before .before .before .if1 .left) _ (length-replicate {A = ℕ} 4096 0) _ _ (c .before .before .before .decode .ensures) (c .enum-told2 .given .1)) (refused-is 5 _)
+returns-3 c = moved (narrow-no-room (c .before .before .before .before .before .before .before .before .before .before .before .args .table .now) (c .before .before .before .before .before .before .before .before .before .before .before .args .text .now) (c .before .before .before .before .before .before .before .before .before .before .before .args .caveat .now) (c .before .before .before .before .before .before .if1 .left) _ (length-replicate {A = ℕ} 4096 0) _ _ (c .before .before .before .before .decode .ensures) (c .before .enum-told2 .given .1)) (refused-is (c .refusal3 .ensures))
 
 same-length : tie.Need-same-length
 same-length c = search needs
@@ -57,11 +67,14 @@ pub narrow-text-spec : {M : Type 1} → statement M
 narrow-text-spec =
     tie.close
     (tie.spec
+    refusal-requires
     returns
     slice-aggregate-decode
     decode-requires
     enum-told
+    refusal-requires-2
     enum-told-2
+    refusal-requires-3
     enum-known-n
     sub-narrow-bytes
     part-narrow-bytes-start

@@ -12,6 +12,7 @@ use Rattle.basis.proofs.run.Reads as run-reads
 use Rattle.chain.proofs.first_link.Reads as first-link-reads
 use Rattle.issuing.proofs.add_caveat.Reads as add-caveat-reads
 use Rattle.issuing.proofs.links.Reads as links-reads
+use Rattle.issuing.proofs.refusal.Reads as refusal-reads
 use Rattle.judging.proofs.same_tag.Reads as same-tag-reads
 
 part-requires : tie.Need-part-requires
@@ -44,8 +45,11 @@ same-length c = search needs
 returns : tie.Need-returns
 returns c = moved (narrow-right-tag (c .before .before .before .before .before .before .before .before .before .before .before .before .before .before .before .before .before .args .key .now) (c .before .before .before .before .before .before .before .before .before .before .before .before .before .before .before .before .before .args .s .now) (c .before .before .before .before .before .before .before .before .before .before .before .before .before .before .before .before .before .args .at) (c .before .before .before .before .before .before .before .before .before .before .before .before .before .before .before .before .before .args .caveats .now) (c .before .before .before .before .before .before .before .before .before .before .before .before .before .before .before .before .before .args .caveat .now) (c .before .before .before .before .before .before .before .before .before .before .before .part .ensures) (c .before .before .before .before .before .before .before .before .before .before .part2 .ensures) (c .before .before .before .before .before .before .before .before .before .part3 .ensures) (c .before .before .before .before .before .before .before .before .first-link .ensures) (c .before .before .before .before .before .before .before .links .ensures) (c .before .before .before .before .before .before .run .ensures) (sym (c .before .before .before .before .before .same-tag .ensures) ∙ c .before .before .before .before .if1 .taken)) (c .before .before .add-caveat .ensures)
 
+refusal-requires : tie.Need-refusal-requires
+refusal-requires c κs = search needs
+
 returns-2 : tie.Need-returns-2
-returns-2 c = moved (narrow-other-tag (c .before .before .before .before .before .before .before .before .before .before .before .before .before .args .key .now) (c .before .before .before .before .before .before .before .before .before .before .before .before .before .args .s .now) (c .before .before .before .before .before .before .before .before .before .before .before .before .before .args .at) (c .before .before .before .before .before .before .before .before .before .before .before .before .before .args .caveats .now) (c .before .before .before .before .before .before .before .before .before .before .before .before .before .args .caveat .now) (c .before .before .before .before .before .before .before .part .ensures) (c .before .before .before .before .before .before .part2 .ensures) (c .before .before .before .before .before .part3 .ensures) (c .before .before .before .before .first-link .ensures) (c .before .before .before .links .ensures) (c .before .before .run .ensures) (sym (c .before .same-tag .ensures) ∙ c .if1 .left)) (refused-is 8 _)
+returns-2 c = moved (narrow-other-tag (c .before .before .before .before .before .before .before .before .before .before .before .before .before .before .args .key .now) (c .before .before .before .before .before .before .before .before .before .before .before .before .before .before .args .s .now) (c .before .before .before .before .before .before .before .before .before .before .before .before .before .before .args .at) (c .before .before .before .before .before .before .before .before .before .before .before .before .before .before .args .caveats .now) (c .before .before .before .before .before .before .before .before .before .before .before .before .before .before .args .caveat .now) (c .before .before .before .before .before .before .before .before .part .ensures) (c .before .before .before .before .before .before .before .part2 .ensures) (c .before .before .before .before .before .before .part3 .ensures) (c .before .before .before .before .before .first-link .ensures) (c .before .before .before .before .links .ensures) (c .before .before .before .run .ensures) (sym (c .before .before .same-tag .ensures) ∙ c .before .if1 .left)) (refused-is (c .refusal .ensures))
 
 pub narrow-with-spec : {M : Type 1} → statement M
 narrow-with-spec =
@@ -61,4 +65,5 @@ narrow-with-spec =
     add-caveat-requires
     same-length
     returns
+    refusal-requires
     returns-2)

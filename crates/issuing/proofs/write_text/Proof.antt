@@ -5,12 +5,16 @@ use Rattle.issuing.proofs.write_text.Tie as tie
 use Rattle.issuing.proofs.write_text.Reads as reads
 use Rattle.issuing.proofs.write_text.Lts as lts
 use Rattle.base64url.proofs.encode.Reads as encode-reads
+use Rattle.issuing.proofs.refusal.Reads as refusal-reads
 
 encode-requires : tie.Need-encode-requires
 encode-requires c κs = search needs
 
 enum-told : tie.Need-enum-told
 enum-told c = search needs
+
+refusal-requires : tie.Need-refusal-requires
+refusal-requires c κs = search needs
 
 enum-known-n : tie.Need-enum-known-n
 enum-known-n c = search needs
@@ -22,7 +26,7 @@ same-length : tie.Need-same-length
 same-length c = search needs
 
 returns : tie.Need-returns
-returns c = none-handed _ _ (c .before .before .before .before .encode .ensures) (c .enum-told .given .1)
+returns c = none-handed _ _ (c .before .before .before .before .before .encode .ensures) (c .before .enum-told .given .1) (c .refusal .ensures)
 
 same-length-2 : tie.Need-same-length-2
 same-length-2 c = search needs
@@ -36,6 +40,7 @@ write-text-spec =
     (tie.spec
     encode-requires
     enum-told
+    refusal-requires
     enum-known-n
     cast-t8
     same-length
