@@ -100,7 +100,7 @@ fn scope_at(s: &[u8], at: usize, body: &[u8], asked: Asked) -> u32
     }
 }
 
-// Looks at all 32 bytes whether or not they differ, so that its time tells nothing of the tag.
+// Looks at all 32 bytes whether or not they differ: no early end tells how much of a tag was right.
 pub fn same_tag(link: [u8; 32], tag: &[u8]) -> bool
     ensures { λ r. ⌜ r ≡ sameOf link (now (tag .entry)) ⌝ }
 {
