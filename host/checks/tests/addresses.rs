@@ -36,8 +36,7 @@ const ONE_BIT: Outcomes = (99_008, 48_416, 50_592);
 const LARGE: Outcomes = (1160, 526, 634);
 
 /// The inputs from a seed together; what is gone through exhaustively comes on top.
-const SEEDED: usize = 3_200_000;
-const _: () = assert!(SIZES.0 + CHANGED.0 + ADDED.0 + RANDOM.0 + LENGTHS.0 >= SEEDED);
+const _: () = assert!(SIZES.0 + CHANGED.0 + ADDED.0 + RANDOM.0 + LENGTHS.0 >= 3_200_000);
 
 fn text(address: u32, size: impl std::fmt::Display) -> Vec<u8> {
     let [a, b, c, d] = address.to_be_bytes();

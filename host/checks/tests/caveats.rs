@@ -29,8 +29,7 @@ const SIMPLE: Counts = (9504, 807, [8697, 0, 0]);
 const RANDOM: Counts = (200_000, 8000, [130_000, 40, 61_000]);
 
 /// The inputs from a seed together; what is gone through exhaustively comes on top.
-const SEEDED: usize = 1_670_000;
-const _: () = assert!(GOOD.0 + DAMAGED.0 + EDITED.0 + MIXED.0 + VALUES.0 + RANDOM.0 >= SEEDED);
+const _: () = assert!(GOOD.0 + DAMAGED.0 + EDITED.0 + MIXED.0 + VALUES.0 + RANDOM.0 >= 1_670_000);
 
 fn take(beside: &mut Beside, caveat: &[u8]) {
     assert_eq!(read(caveat, 0).map(|caveat| caveat.next), Ok(caveat.len()), "{}", inputs::hex(caveat));

@@ -26,8 +26,7 @@ const TABLES: usize = 8000;
 const IDS: usize = 8000;
 
 /// All of these together.
-const SEEDED: usize = 60_000;
-const _: () = assert!(FAULTY + SETS + FRESH + SCOPES + TABLES + IDS >= SEEDED);
+const _: () = assert!(FAULTY + SETS + FRESH + SCOPES + TABLES + IDS >= 60_000);
 
 #[test]
 fn every_answer_is_given_by_what_is_wrong_first_whatever_else_is_wrong_behind_it() {

@@ -28,10 +28,9 @@ const RANDOM: (usize, usize) = (300_000, 57_000);
 const LONG: (usize, usize) = (288, 64);
 
 /// The inputs from a seed together; what is gone through exhaustively comes on top.
-const SEEDED: usize = 1_900_000;
 const _: () = assert!(
     HEADS.0 + PLACES.0 + RANGES.0 + RUNS.0 + STRINGS.0 + VALUES.0 + NESTED.0 + COUNTS.0 + REFUSALS.0 + RANDOM.0
-        >= SEEDED
+        >= 1_900_000
 );
 
 #[test]

@@ -14,8 +14,7 @@ const IN_BAD: Outcomes = (12_000, 1500, 10_500);
 const IN_EDITED: Outcomes = (39_000, 4200, 35_000);
 
 /// All are from a seed.
-const SEEDED: usize = 180_000;
-const _: () = assert!(FOUND.0 + IN_BAD.0 + IN_EDITED.0 >= SEEDED);
+const _: () = assert!(FOUND.0 + IN_BAD.0 + IN_EDITED.0 >= 180_000);
 
 /// The key under these ids, by going through the rows.
 fn found<'a>(rows: &'a [Row], tid: &[u8], kid: &[u8]) -> Option<&'a [u8]> {

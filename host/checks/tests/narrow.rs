@@ -30,8 +30,7 @@ const TABLES: usize = 7000;
 const SPOILED: usize = 10_000;
 
 /// All of these together.
-const SEEDED: usize = 100_000;
-const _: () = assert!(FAULTY + SETS + PAIRS + COUNTS + CAVEATS + PARENTS + TABLES + SPOILED >= SEEDED);
+const _: () = assert!(FAULTY + SETS + PAIRS + COUNTS + CAVEATS + PARENTS + TABLES + SPOILED >= 100_000);
 
 #[test]
 fn every_answer_is_given_by_what_is_wrong_first_whatever_else_is_wrong_behind_it() {

@@ -32,8 +32,7 @@ const ORDERS: Outcomes = (5760, 40, 5700);
 const RANDOM: Outcomes = (90_008, 30_000, 60_000);
 
 /// The inputs from a seed together; what is gone through exhaustively comes on top.
-const SEEDED: usize = 540_000;
-const _: () = assert!(GOOD.0 + DAMAGED.0 + EDITED.0 + NUMBERS.0 + RANDOM.0 >= SEEDED);
+const _: () = assert!(GOOD.0 + DAMAGED.0 + EDITED.0 + NUMBERS.0 + RANDOM.0 >= 540_000);
 
 fn take(beside: &mut Beside, request: &[u8]) {
     assert!(read(request).is_some(), "{}", hex(request));

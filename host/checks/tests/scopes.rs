@@ -21,8 +21,7 @@ const NUMBERS: Counts = (6000, 3000, [3000, 0, 0]);
 const RANDOM: Counts = (81_000, 3900, [65_000, 180, 11_000]);
 
 /// The inputs from a seed together; what is gone through exhaustively comes on top.
-const SEEDED: usize = 510_000;
-const _: () = assert!(GOOD.0 + DAMAGED.0 + EDITED.0 + PLACES.0 + RANDOM.0 >= SEEDED);
+const _: () = assert!(GOOD.0 + DAMAGED.0 + EDITED.0 + PLACES.0 + RANDOM.0 >= 510_000);
 
 fn take(beside: &mut Beside, scope: &[u8]) {
     assert_eq!(read(scope, 0).map(|scope| scope.next), Ok(scope.len()));

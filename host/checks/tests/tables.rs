@@ -25,8 +25,7 @@ const BEGIN: Outcomes = (24_576, 6240, 18_336);
 const RANDOM: Outcomes = (90_000, 30_000, 59_000);
 
 /// The inputs from a seed together; what is gone through exhaustively comes on top.
-const SEEDED: usize = 710_000;
-const _: () = assert!(GOOD.0 + ORDERS.0 + DAMAGED.0 + EDITED.0 + TWO_WAYS.0 + RANDOM.0 >= SEEDED);
+const _: () = assert!(GOOD.0 + ORDERS.0 + DAMAGED.0 + EDITED.0 + TWO_WAYS.0 + RANDOM.0 >= 710_000);
 
 fn take(beside: &mut Beside, table: &[u8]) {
     assert!(read(table).is_some(), "{}", hex(table));

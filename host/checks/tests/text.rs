@@ -20,8 +20,7 @@ const LONG: (usize, usize) = (258, 70);
 const SMALL_ROOMS: (usize, usize) = (3690, 530);
 
 /// The inputs from a seed together; what is gone through exhaustively comes on top.
-const SEEDED: usize = 400_000;
-const _: () = assert!(LENGTHS.0 + LETTER_TEXTS.0 + POSITIONS.0 + CHANGED.0 + SPOILED.0 + SMALL_ROOMS.0 >= SEEDED);
+const _: () = assert!(LENGTHS.0 + LETTER_TEXTS.0 + POSITIONS.0 + CHANGED.0 + SPOILED.0 + SMALL_ROOMS.0 >= 400_000);
 
 fn letters(seeded: &mut Seeded, count: usize) -> Vec<u8> {
     (0..count).map(|_| LETTERS[seeded.below(64)]).collect()

@@ -32,8 +32,7 @@ const LARGE: Counts = (128_000, 6600, [72_000, 8500, 40_000]);
 const RANDOM: Counts = (121_000, 1000, [91_000, 90, 28_000]);
 
 /// The inputs from a seed together; what is gone through exhaustively comes on top.
-const SEEDED: usize = 1_320_000;
-const _: () = assert!(GOOD.0 + DAMAGED.0 + EDITED.0 + COUNTS.0 + PARTS.0 + LARGE.0 + RANDOM.0 >= SEEDED);
+const _: () = assert!(GOOD.0 + DAMAGED.0 + EDITED.0 + COUNTS.0 + PARTS.0 + LARGE.0 + RANDOM.0 >= 1_320_000);
 
 fn take(beside: &mut Beside, token: &[u8]) {
     assert!(read(token).is_ok(), "{}", inputs::hex(token));
