@@ -1,11 +1,11 @@
--- Two answers never share a number or a name: each number, and each name, leads back to its case.
+-- Two answers never share a number or a name: each number, and each name, leads back to its answer.
 use mathlib.Core.Path.{_≡_, refl, sym, ap, _∙_}
 use mathlib.Core.Bool.{Bool, true, false, _&&_}
 use mathlib.Core.List.{List, [], _∷_}
 use Prim.Native.Nat.{ℕ}
 use lib.Dec.{eqb}
 use Rattle.basis.specs.Basis.{pick}
-use Rattle.answers.specs.Answers.{numberOf, nameOf}
+use Rattle.answers.specs.Answers.{numberOf, nameOf, list, answerOf}
 use Rattle.answers.specs.declared.Answer.{Answer}
 use Rattle.answers.specs.declared.Answer.the-variants.{
   Allow,
@@ -39,10 +39,6 @@ use Rattle.answers.specs.declared.Answer.the-variants.{
   HashBad,
 }
 
-every : List Answer
-every =
-    Allow ∷ TableBad ∷ CtxBad ∷ ParseB64 ∷ ParseCbor ∷ ParseBounds ∷ SchemaUnknownField ∷ KidUnknown ∷ MacMismatch ∷ TenantMismatch ∷ CaveatMethod ∷ CaveatPath ∷ CaveatBytes ∷ CaveatExp ∷ CaveatNbf ∷ CaveatAud ∷ CaveatIp ∷ CaveatRate ∷ CaveatTenant ∷ CaveatAmnesia ∷ CaveatPolicyDigest ∷ CaveatCustomUnknown ∷ CavCbor ∷ CavBounds ∷ CavUnknown ∷ CavFull ∷ SizeFull ∷ OutShort ∷ HashBad ∷ []
-
 find : (Answer → Bool) → List Answer → Answer
 find test [] = Allow
 find test (a ∷ rest) = pick (test a) a (find test rest)
@@ -53,14 +49,11 @@ alike [] (y ∷ t) = false
 alike (x ∷ s) [] = false
 alike (x ∷ s) (y ∷ t) = eqb x y && alike s t
 
-byNumber : ℕ → Answer
-byNumber n = find (λ a. eqb (numberOf a) n) every
-
 byName : List ℕ → Answer
-byName s = find (λ a. alike (nameOf a) s) every
+byName s = find (λ a. alike (nameOf a) s) list
 
-back : (a : Answer) → (byNumber (numberOf a) ≡ a) × (byName (nameOf a) ≡ a)
-unfolding byNumber byName find alike every
+back : (a : Answer) → (answerOf (numberOf a) ≡ a) × (byName (nameOf a) ≡ a)
+unfolding answerOf byName find alike
 back Allow = (refl, refl)
 back TableBad = (refl, refl)
 back CtxBad = (refl, refl)
@@ -91,8 +84,11 @@ back SizeFull = (refl, refl)
 back OutShort = (refl, refl)
 back HashBad = (refl, refl)
 
+pub number-back : (a : Answer) → answerOf (numberOf a) ≡ a
+number-back a = back a .0
+
 pub numbers-differ : (a b : Answer) → numberOf a ≡ numberOf b → a ≡ b
-numbers-differ a b e = sym (back a .0) ∙ ap byNumber e ∙ back b .0
+numbers-differ a b e = sym (back a .0) ∙ ap answerOf e ∙ back b .0
 
 pub names-differ : (a b : Answer) → nameOf a ≡ nameOf b → a ≡ b
 names-differ a b e = sym (back a .1) ∙ ap byName e ∙ back b .1

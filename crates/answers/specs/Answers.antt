@@ -1,8 +1,9 @@
 -- The one numbered list: document 01, "Numbers and names". Each case has its number and its name there; a request that adds
 -- an answer adds a case here and nowhere else.
-use mathlib.Core.List.{List}
+use mathlib.Core.List.{List, [], _∷_}
 use Prim.Native.Nat.{ℕ}
-use Rattle.basis.specs.Basis.{ascii}
+use lib.Dec.{eqb}
+use Rattle.basis.specs.Basis.{pick, ascii}
 use Rattle.answers.specs.declared.Answer.{Answer}
 use Rattle.answers.specs.declared.Answer.the-variants.{
   Allow,
@@ -98,3 +99,16 @@ nameOf CavFull = ascii "cav.full"
 nameOf SizeFull = ascii "size.full"
 nameOf OutShort = ascii "out.short"
 nameOf HashBad = ascii "hash.bad"
+
+-- the list, in its order
+abbrev pub list : List Answer
+list =
+    Allow ∷ TableBad ∷ CtxBad ∷ ParseB64 ∷ ParseCbor ∷ ParseBounds ∷ SchemaUnknownField ∷ KidUnknown ∷ MacMismatch ∷ TenantMismatch ∷ CaveatMethod ∷ CaveatPath ∷ CaveatBytes ∷ CaveatExp ∷ CaveatNbf ∷ CaveatAud ∷ CaveatIp ∷ CaveatRate ∷ CaveatTenant ∷ CaveatAmnesia ∷ CaveatPolicyDigest ∷ CaveatCustomUnknown ∷ CavCbor ∷ CavBounds ∷ CavUnknown ∷ CavFull ∷ SizeFull ∷ OutShort ∷ HashBad ∷ []
+
+-- the one with this number; a number that no answer has is told as the last
+abbrev pub withNumber : ℕ → List Answer → Answer
+withNumber n [] = HashBad
+withNumber n (a ∷ rest) = pick (eqb n (numberOf a)) a (withNumber n rest)
+
+unfoldable pub answerOf : ℕ → Answer
+answerOf n = withNumber n list

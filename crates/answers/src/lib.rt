@@ -1,7 +1,7 @@
 // The one numbered list of answers: its cases, their numbers and their names.
 ghost use mathlib.Core.Path.{_≡_};
 ghost use Rattle.basis.specs.Basis.{Written};
-ghost use Rattle.answers.specs.Answers.{numberOf, nameOf};
+ghost use Rattle.answers.specs.Answers.{numberOf, nameOf, answerOf};
 ghost use Rattle.answers.specs.Rows.{rowOf};
 
 pub enum Answer {
@@ -132,6 +132,43 @@ pub fn number(a: Answer) -> u32
         Answer::SizeFull => 35,
         Answer::OutShort => 36,
         Answer::HashBad => 37,
+    }
+}
+
+// The answer that a number stands for.
+pub fn answer_of(n: u32) -> Answer
+    ensures { λ r. ⌜ r ≡ answerOf n ⌝ }
+{
+    match n {
+        0 => Answer::Allow,
+        1 => Answer::TableBad,
+        2 => Answer::CtxBad,
+        3 => Answer::ParseB64,
+        4 => Answer::ParseCbor,
+        5 => Answer::ParseBounds,
+        6 => Answer::SchemaUnknownField,
+        7 => Answer::KidUnknown,
+        8 => Answer::MacMismatch,
+        9 => Answer::TenantMismatch,
+        10 => Answer::CaveatMethod,
+        11 => Answer::CaveatPath,
+        12 => Answer::CaveatBytes,
+        13 => Answer::CaveatExp,
+        14 => Answer::CaveatNbf,
+        15 => Answer::CaveatAud,
+        16 => Answer::CaveatIp,
+        17 => Answer::CaveatRate,
+        18 => Answer::CaveatTenant,
+        19 => Answer::CaveatAmnesia,
+        20 => Answer::CaveatPolicyDigest,
+        21 => Answer::CaveatCustomUnknown,
+        31 => Answer::CavCbor,
+        32 => Answer::CavBounds,
+        33 => Answer::CavUnknown,
+        34 => Answer::CavFull,
+        35 => Answer::SizeFull,
+        36 => Answer::OutShort,
+        _ => Answer::HashBad,
     }
 }
 

@@ -1,15 +1,15 @@
 -- From the judgement of a text and the room's length to the promise of `decode`.
 use mathlib.Core.Path.{_≡_, refl, sym}
 use mathlib.Core.Bool.{Bool, true, false}
-use mathlib.Core.List.{List, [], _∷_}
-use Prim.Native.Nat.{ℕ, suc, _-_, _%_, _≤_, _<_}
+use mathlib.Core.List.{List}
+use Prim.Native.Nat.{ℕ, _-_, _%_, _≤_, _<_}
 use native.Mathlib.Omega.{arith}
 use borrow.Author.Tests.{le-leb, lt-leb, ltb-false, eqb-true, eqb-false}
 use lib.Dec.{ltb, eqb}
 use lib.ListN.{length}
 use Rattle.basis.specs.Basis.{pick, over}
 use Rattle.base64url.proofs.Judging.{bad-le}
-use Rattle.base64url.specs.Reading.{digitOf, badAt, unusedOf, byteLength, judgedOf, bytesOf, decodedOf, leftOf, Fillable, Filled}
+use Rattle.base64url.specs.Reading.{badAt, unusedOf, byteLength, judgedOf, bytesOf, decodedOf, leftOf, Fillable, Filled}
 use Rattle.base64url.specs.declared.Judged.the-variants.{Whole, Fault}
 use Rattle.base64url.specs.declared.Decoded.the-variants.{Bytes, Bad, Short}
 

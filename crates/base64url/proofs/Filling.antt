@@ -9,9 +9,10 @@ use borrow.Author.Tests.{ltb-true}
 use borrow.Rule.Slice.PartMut.{putMid}
 use lib.Dec.{ltb}
 use lib.ListN.{length, take, drop, getD, set, length-append, length-set, length-drop, take-append-drop}
-use lib.Seq.{drop-cons, take-add, length-take-le, take-all}
+use lib.Seq.{take-add, length-take-le, take-all}
 use Rattle.basis.specs.Basis.{pick, over}
 use Rattle.basis.proofs.Rooms.{set-over, lent-over}
+use Rattle.text_writing.proofs.Fronts.{front-at, left-fits}
 use Rattle.base64url.specs.Reading.{digitOf, badAt, bytesOf, byteLength, Fillable}
 
 -- where every character is a letter, each is
@@ -84,9 +85,6 @@ pub sofar-none : (text entry : List ℕ) → Fillable text entry → Sofar text 
 unfolding bytesOf
 sofar-none text entry f = record { fillable = f; long = refl; inside = omega arith; groups = refl; bytes = refl; front = refl }
 
-pub front-at : (s : List ℕ) (j k : ℕ) → suc j ≡ k → j < length s → drop j s ≡ getD s j 0 ∷ drop k s
-front-at s j k e h = drop-cons s j 0 h ∙ ap (λ (n : ℕ). getD s j 0 ∷ drop n s) e
-
 four-at : (s : List ℕ) (j : ℕ) → j + 4 ≤ length s
     → take 4 (drop j s) ≡ getD s j 0 ∷ getD s (j + 1) 0 ∷ getD s (j + 2) 0 ∷ getD s (j + 3) 0 ∷ []
 four-at s j h =
@@ -113,9 +111,6 @@ letters-drop (suc j) (c ∷ t) e = by (ltb (digitOf c) 64) e (λ f. letters-drop
 
 split-length : (n j : ℕ) → j ≤ n → j % 4 ≡ 0 → byteLength n ≡ j / 4 * 3 + byteLength (n - j)
 split-length n j h g = omega arith
-
-pub left-fits : (i e o m : ℕ) {n b : ℕ} → n ≤ e → o ≡ e → n ≡ b + m → i ≡ b → m ≤ o - i
-left-fits i e o m p q r t = omega arith
 
 length-snoc : (w : List ℕ) (x i : ℕ) → i ≡ length w → i + 1 ≡ length (w ++ (x ∷ []))
 length-snoc w x i e = rw length-append (ap (λ (n : ℕ). n + 1) e)

@@ -10,7 +10,7 @@ use lib.Dec.{eqb, ltb}
 use lib.ListN.{length, getD}
 use Rattle.bytes.specs.Bytes.{indexOf, indexAfter}
 use Rattle.basis.proofs.All.{all, all-at}
-use Rattle.base64url.specs.Base64url.{alphabet, letterOf}
+use Rattle.text_writing.specs.Base64url.{alphabet, letterOf}
 use Rattle.base64url.specs.Reading.{digitOf, fourLetters}
 
 -- the table of the code

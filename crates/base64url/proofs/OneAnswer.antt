@@ -4,10 +4,8 @@ use mathlib.Core.List.{List}
 use Prim.Native.Nat.{ℕ}
 use Rattle.basis.proofs.OneAnswer.{told}
 use Rattle.base64url.specs.Reading.{judgedOf, bytesOf, leftOf, Filled}
-use Rattle.base64url.specs.Writing.{Encoding}
 use Rattle.base64url.specs.declared.Judged.{Judged}
 use Rattle.base64url.specs.declared.Decoded.{Decoded}
-use Rattle.base64url.specs.declared.Encoded.{Encoded}
 
 pub judge-one-answer : (text : List ℕ) {r s : Judged} → r ≡ judgedOf text → s ≡ judgedOf text → r ≡ s
 judge-one-answer text p q = told p q
@@ -16,6 +14,3 @@ pub decode-one-answer : (text entry : List ℕ) {r s : Decoded} {x y : List ℕ}
 decode-one-answer text entry p q =
     let e = told (p .answer) (q .answer) in
     (e, told (p .content ∙ ap (λ (d : Decoded). leftOf d (bytesOf text) entry) e) (q .content))
-
-pub encode-one-answer : (bytes entry : List ℕ) {r s : Encoded} {x y : List ℕ} → Encoding bytes entry r x → Encoding bytes entry s y → (r ≡ s) × (x ≡ y)
-encode-one-answer bytes entry p q = (told (p .answer) (q .answer), told (p .content) (q .content))

@@ -7,7 +7,7 @@ use native.Mathlib.Omega.{arith}
 use borrow.Author.Tests.{lt-ltb, le-ltb, ne-eqb}
 use lib.ListN.{length}
 use Rattle.basis.specs.Basis.{IsBytes}
-use Rattle.base64url.specs.Base64url.{letterOf, base64url}
+use Rattle.text_writing.specs.Base64url.{letterOf, base64url}
 use Rattle.base64url.specs.Reading.{digitOf, badAt, unusedOf, byteLength, judgedOf, bytesOf}
 use Rattle.base64url.specs.declared.Judged.the-variants.{Whole}
 use Rattle.base64url.proofs.Letters.{digit-letter, letter-digit}

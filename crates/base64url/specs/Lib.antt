@@ -1,3 +1,1 @@
-pub mod Base64url
 pub mod Reading
-pub mod Writing

@@ -8,7 +8,7 @@ use lib.ListN.{length, getD}
 use lib.Dec.{ltb, leb, eqb}
 use Rattle.bytes.specs.Bytes.{indexOf}
 use Rattle.basis.specs.Basis.{pick, over}
-use Rattle.base64url.specs.Base64url.{alphabet}
+use Rattle.text_writing.specs.Base64url.{alphabet}
 use Rattle.base64url.specs.declared.Judged.{Judged}
 use Rattle.base64url.specs.declared.Judged.the-variants.{Whole, Fault}
 use Rattle.base64url.specs.declared.Decoded.{Decoded}

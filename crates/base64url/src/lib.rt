@@ -1,11 +1,9 @@
-// Base64URL without padding: text to bytes and back. A text is judged before a byte of it is written,
-// so a refusal leaves the room as it was.
+// Base64URL text without padding to bytes. A text is judged before a byte of it is written, so a refusal leaves
+// the room as it was.
 ghost use mathlib.Core.Path.{_≡_};
-ghost use Prim.Native.Nat.{_<_, _≤_};
+ghost use Prim.Native.Nat.{_<_};
 ghost use lib.ListN.{length};
 ghost use Rattle.basis.specs.Basis.{over};
-ghost use Rattle.base64url.specs.Base64url.{base64url, letterOf, tailLength, textLength};
-ghost use Rattle.base64url.specs.Writing.{Encoding};
 ghost use Rattle.base64url.specs.Reading.{IsDigits, digitOf, fourLetters, badAt, judgedOf, bytesOf, Fillable, Filled};
 
 // The six bits of each character, and 64 for one that is no letter. The compiler lays the table out anew
@@ -37,13 +35,6 @@ pub enum Decoded {
     Bytes { n: usize },
     Bad { at: usize },
     Short,
-}
-
-const LETTERS: [u8; 64] = *b"ABCDEFGHIJKLMNOPQRSTUVWXYZabcdefghijklmnopqrstuvwxyz0123456789-_";
-
-pub enum Encoded {
-    Text { n: usize },
-    NoRoom,
 }
 
 fn digit(digits: &[u8; 256], c: u8) -> u8
@@ -171,79 +162,4 @@ pub fn decode(text: &[u8], room: &mut [u8]) -> Decoded
             Decoded::Bytes { n }
         }
     }
-}
-
-fn letter(v: u8) -> u8
-    requires { ⌜ v < 64 ⌝ }
-    ensures { λ r. ⌜ r ≡ letterOf v ⌝ }
-{
-    LETTERS[v as usize]
-}
-
-// One or two bytes left behind the groups of three, or none.
-fn write_rest(bytes: &[u8], room: &mut [u8])
-    requires { ⌜ (length (now bytes) < 3) × (textLength (length (now bytes)) ≤ length (now room)) ⌝ }
-    ensures { λ _. ⌜ now (room .exit) ≡ over (base64url (now (bytes .entry))) (now (room .entry)) ⌝ }
-{
-    if bytes.len() < 1 {
-        return;
-    }
-    let x = bytes[0];
-    room[0] = letter(x / 4);
-    if bytes.len() < 2 {
-        room[1] = letter(x % 4 * 16);
-        return;
-    }
-    let y = bytes[1];
-    room[1] = letter(x % 4 * 16 + y / 16);
-    room[2] = letter(y % 16 * 4);
-}
-
-fn write(bytes: &[u8], room: &mut [u8])
-    requires { ⌜ textLength (length (now bytes)) ≤ length (now room) ⌝ }
-    ensures { λ _. ⌜ now (room .exit) ≡ over (base64url (now (bytes .entry))) (now (room .entry)) ⌝ }
-{
-    let mut i: usize = 0;
-    let mut j: usize = 0;
-    while 3 <= bytes.len() - j {
-        let x = bytes[j];
-        let y = bytes[j + 1];
-        let z = bytes[j + 2];
-        room[i] = letter(x / 4);
-        room[i + 1] = letter(x % 4 * 16 + y / 16);
-        room[i + 2] = letter(y % 16 * 4 + z / 64);
-        room[i + 3] = letter(z % 64);
-        i += 4;
-        j += 3;
-    }
-    write_rest(&bytes[j..], &mut room[i..]);
-}
-
-fn tail_length(rest: usize) -> usize
-    ensures { λ r. ⌜ r ≡ tailLength rest ⌝ }
-{
-    if rest == 0 {
-        return 0;
-    }
-    if rest == 1 {
-        return 2;
-    }
-    3
-}
-
-// The text of the bytes at the front of the room, the rest of which stays; nothing where it does not fit.
-pub fn encode(bytes: &[u8], room: &mut [u8]) -> Encoded
-    ensures { λ r. ⌜ Encoding (now (bytes .entry)) (now (room .entry)) r (now (room .exit)) ⌝ }
-{
-    let groups = bytes.len() / 3;
-    if room.len() / 4 < groups {
-        return Encoded::NoRoom;
-    }
-    let whole = groups * 4;
-    let tail = tail_length(bytes.len() % 3);
-    if room.len() - whole < tail {
-        return Encoded::NoRoom;
-    }
-    write(bytes, room);
-    Encoded::Text { n: whole + tail }
 }

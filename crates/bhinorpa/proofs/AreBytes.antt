@@ -10,7 +10,7 @@ use lib.Dec.{ltb}
 use lib.ListN.{length}
 use Rattle.basis.specs.Basis.{ascii, IsBytes}
 use Rattle.basis.proofs.Picks.{either, tested}
-use Rattle.cbor.specs.Heads.{big, head}
+use Rattle.heads.specs.Heads.{big, head}
 use Rattle.cbor.specs.Strings.{string}
 use Rattle.keys.specs.Maps.{text, entry}
 use Rattle.token.specs.Tokens.{tokenBytes}

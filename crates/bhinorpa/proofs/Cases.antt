@@ -10,7 +10,7 @@ use lib.ListN.{length, drop, drop-of-length-le}
 use Rattle.basis.specs.Basis.{pick, IsBytes}
 use Rattle.basis.specs.Same.{sameOf}
 use Rattle.basis.proofs.Sameness.{same-equal}
-use Rattle.base64url.specs.Base64url.{base64url}
+use Rattle.text_writing.specs.Base64url.{base64url}
 use Rattle.base64url.specs.Reading.{judgedOf, bytesOf, decodedOf}
 use Rattle.base64url.specs.declared.Judged.{Judged}
 use Rattle.base64url.specs.declared.Judged.the-variants.{Whole, Fault}
@@ -24,9 +24,9 @@ use Rattle.scope.specs.declared.ScopeParts.the-variants.{Of as ScopeIs, Bad as 
 use Rattle.scope.proofs.DefectKinds.{scope-kind}
 use Rattle.caveat.specs.Caveats.{Caveat, encodeCaveat, GoodCaveat}
 use Rattle.caveat.specs.Reading.{caveatOf}
-use Rattle.caveat.specs.declared.Caveat.{Caveat as Part}
-use Rattle.caveat.specs.declared.CaveatParts.{CaveatParts}
-use Rattle.caveat.specs.declared.CaveatParts.the-variants.{Of as CaveatIs, Bad as NoCaveat}
+use Rattle.caveat_values.specs.declared.Caveat.{Caveat as Part}
+use Rattle.caveat_values.specs.declared.CaveatParts.{CaveatParts}
+use Rattle.caveat_values.specs.declared.CaveatParts.the-variants.{Of as CaveatIs, Bad as NoCaveat}
 use Rattle.caveat.proofs.CaveatLaws.{caveat-read}
 use Rattle.caveat.proofs.DefectKinds.{caveat-kind}
 use Rattle.token.specs.Tokens.{Token, encodeToken}
@@ -39,11 +39,12 @@ use Rattle.token.proofs.WritingLaws.{fresh-written}
 use Rattle.tables.specs.Tables.{Row, encodeTable, GoodTable, hasRow, keyIn}
 use Rattle.tables.specs.Reading.{tableOk, findFrom}
 use Rattle.tables.proofs.TableLaws.{table-read, table-written, find-finds, key-of-row}
-use Rattle.issuing.specs.Handing.{Handed, refused, handed}
+use Rattle.handing.specs.Handing.{Handed, refused, handed}
 use Rattle.issuing.specs.Issuing.{issueWith, issueThen, issueOf}
-use Rattle.issuing.specs.Narrowing.{sized, tokenThen, bytesThen, decodedThen, textThen, narrowOf}
+use Rattle.growing.specs.Growing.{sized}
+use Rattle.narrowing.specs.Narrowing.{tokenThen, bytesThen, decodedThen, textThen, narrowOf}
 use Rattle.issuing.proofs.Fresh.{issue-bad-table, issue-bad-scope, issue-left-over, issue-found, scope-whole}
-use Rattle.issuing.proofs.Narrowed.{narrow-too-long, narrow-bad-table, narrow-good-table}
+use Rattle.narrowing.proofs.Narrowed.{narrow-too-long, narrow-bad-table, narrow-good-table}
 use Rattle.bhinorpa.specs.Allowed.{Canonical, caveatBytes, chainTag, keyFor}
 use Rattle.bhinorpa.specs.Verdicts.{TableOf}
 use Rattle.bhinorpa.specs.Handouts.{freshToken, childToken, Parent, Added}

@@ -9,16 +9,17 @@ use borrow.Author.Tests.{eqb-true, eqb-false, le-leb, lt-leb}
 use lib.Dec.{eqb, leb, ltb}
 use lib.ListN.{length}
 use Rattle.basis.specs.Basis.{pick, IsBytes}
-use Rattle.base64url.specs.Base64url.{base64url}
+use Rattle.text_writing.specs.Base64url.{base64url}
 use Rattle.caveat.specs.Caveats.{Caveat, encodeCaveat}
 use Rattle.token.specs.Tokens.{Token, encodeToken}
 use Rattle.tables.specs.Tables.{Row, encodeTable}
 use Rattle.requests.specs.Requests.{Request, encodeRequest}
 use Rattle.rules.specs.Holding.{caveatHolds}
 use Rattle.judging.specs.Verifying.{verifyOf}
-use Rattle.issuing.specs.Handing.{Handed, refused, handed, answerOf, Handing}
-use Rattle.issuing.specs.Narrowing.{sized, narrowOf}
-use Rattle.issuing.specs.declared.Outcome.{Outcome}
+use Rattle.handing.specs.Handing.{Handed, refused, handed, answerOf, Handing}
+use Rattle.growing.specs.Growing.{sized}
+use Rattle.narrowing.specs.Narrowing.{narrowOf}
+use Rattle.handing.specs.declared.Outcome.{Outcome}
 use Rattle.bhinorpa.specs.Allowed.{Canonical, firstFailing, checksOf, chainTag, keyFor, EachHolds, AllHold}
 use Rattle.bhinorpa.specs.Verdicts.{TableOf, RequestOf}
 use Rattle.bhinorpa.specs.Handouts.{childToken, Parent, Added}

@@ -9,8 +9,8 @@ use lib.Dec.{leb, ltb}
 use lib.ListN.{length, take, length-append}
 use lib.Seq.{take-at}
 use Rattle.basis.specs.Basis.{pick, over, IsBytes}
-use Rattle.base64url.specs.Base64url.{base64url}
-use Rattle.cbor.specs.Heads.{big, head}
+use Rattle.text_writing.specs.Base64url.{base64url}
+use Rattle.heads.specs.Heads.{big, head}
 use Rattle.cbor.specs.Strings.{string}
 use Rattle.chain.specs.Chain.{nextLink, tagOf}
 use Rattle.chain.proofs.ChainLaws.{tag-length, tag-behind}
@@ -22,12 +22,13 @@ use Rattle.token.proofs.WritingLaws.{caveats-behind}
 use Rattle.tables.specs.Tables.{Row, encodeTable, GoodTable, hasRow}
 use Rattle.tables.specs.Reading.{findFrom}
 use Rattle.tables.proofs.TableLaws.{table-written}
-use Rattle.issuing.specs.Handing.{Handed, refused, handed, Handing}
+use Rattle.handing.specs.Handing.{Handed, refused, handed, Handing}
 use Rattle.issuing.specs.Issuing.{issueOf}
-use Rattle.issuing.specs.Narrowing.{sized, narrowOf}
-use Rattle.issuing.specs.declared.Outcome.{Outcome}
+use Rattle.growing.specs.Growing.{sized}
+use Rattle.narrowing.specs.Narrowing.{narrowOf}
+use Rattle.handing.specs.declared.Outcome.{Outcome}
 use Rattle.issuing.proofs.Fresh.{issue-found}
-use Rattle.issuing.proofs.Sizes.{short-text}
+use Rattle.handing.proofs.Sizes.{short-text}
 use Rattle.bhinorpa.specs.Allowed.{Canonical, caveatBytes, chainTag, keyFor}
 use Rattle.bhinorpa.specs.Verdicts.{TableOf}
 use Rattle.bhinorpa.specs.Handouts.{freshToken, childToken, Parent, Added, narrowNext, narrowAll}

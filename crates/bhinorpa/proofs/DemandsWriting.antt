@@ -8,15 +8,15 @@ use native.Mathlib.Omega.{arith}
 use lib.Dec.{leb}
 use lib.ListN.{length}
 use Rattle.basis.specs.Basis.{pick, over, IsBytes}
-use Rattle.base64url.specs.Base64url.{base64url}
+use Rattle.text_writing.specs.Base64url.{base64url}
 use Rattle.scope.specs.Scopes.{Scope, encodeScope, GoodScope}
 use Rattle.caveat.specs.Caveats.{Caveat, encodeCaveat}
 use Rattle.token.specs.Tokens.{Token, encodeToken}
 use Rattle.tables.specs.Tables.{Row, hasRow, keyIn}
-use Rattle.issuing.specs.Handing.{Handed, refused, handed, Handing}
+use Rattle.handing.specs.Handing.{Handed, refused, handed, Handing}
 use Rattle.issuing.specs.Issuing.{issueOf}
-use Rattle.issuing.specs.Narrowing.{narrowOf}
-use Rattle.issuing.specs.declared.Outcome.{Outcome}
+use Rattle.narrowing.specs.Narrowing.{narrowOf}
+use Rattle.handing.specs.declared.Outcome.{Outcome}
 use Rattle.bhinorpa.specs.Allowed.{caveatBytes, chainTag}
 use Rattle.bhinorpa.specs.Verdicts.{TableOf}
 use Rattle.bhinorpa.specs.Handouts.{freshToken, childToken, Wrote, Issued, Parent, Added, Narrowed}

@@ -10,23 +10,24 @@ use lib.ListN.{length}
 use Rattle.basis.specs.Basis.{pick, over, IsBytes}
 use Rattle.basis.specs.Same.{sameOf}
 use Rattle.basis.proofs.Sameness.{equal-same}
-use Rattle.base64url.specs.Base64url.{base64url}
-use Rattle.base64url.proofs.Writings.{text-length}
+use Rattle.text_writing.specs.Base64url.{base64url}
+use Rattle.text_writing.proofs.Writings.{text-length}
 use Rattle.keyed_hash.specs.KeyedHash.{hash-bytes}
 use Rattle.chain.specs.Chain.{firstMessage, nextMessage, firstLink, nextLink, chainOf, tagOf}
 use Rattle.chain.proofs.ChainLaws.{next-length, tag-length, tag-behind}
 use Rattle.scope.specs.Scopes.{Scope, encodeScope, GoodScope}
 use Rattle.caveat.specs.Caveats.{Caveat, encodeCaveat, GoodCaveat}
 use Rattle.caveat.specs.Reading.{caveatOf}
-use Rattle.caveat.specs.declared.CaveatParts.the-variants.{Of}
+use Rattle.caveat_values.specs.declared.CaveatParts.the-variants.{Of}
 use Rattle.caveat.proofs.CaveatLaws.{partOf, caveat-written}
 use Rattle.token.specs.Tokens.{Token, encodeCaveats, tokenBytes, encodeToken, GoodToken}
 use Rattle.token.specs.Writing.{freshBytes, childBytes}
 use Rattle.token.proofs.WritingLaws.{fresh-written, fresh-good, fresh-short, child-written, child-good}
 use Rattle.tables.specs.Tables.{Row, encodeTable, GoodTable, hasRow, keyIn}
-use Rattle.issuing.specs.Handing.{Handed, refused, handed, Handing}
-use Rattle.issuing.specs.Narrowing.{sized, narrowOf}
-use Rattle.issuing.specs.declared.Outcome.{Outcome}
+use Rattle.handing.specs.Handing.{Handed, refused, handed, Handing}
+use Rattle.growing.specs.Growing.{sized}
+use Rattle.narrowing.specs.Narrowing.{narrowOf}
+use Rattle.handing.specs.declared.Outcome.{Outcome}
 use Rattle.issuing.proofs.Fresh.{Named, known-named}
 use Rattle.bhinorpa.specs.Allowed.{Canonical, caveatBytes, chainTag, keyFor}
 use Rattle.bhinorpa.specs.Verdicts.{TableOf}

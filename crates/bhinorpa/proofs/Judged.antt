@@ -30,10 +30,11 @@ use Rattle.rules.specs.Holding.{failing, caveatHolds, scopeAnswer, caveatAnswer
 use Rattle.rules.specs.Judging.{scopeJudged, caveatJudged}
 use Rattle.rules.specs.declared.Asked.{Asked}
 use Rattle.rules.proofs.RuleLaws.{AskedOf, scope-law, caveat-law}
-use Rattle.judging.specs.Verifying.{soFar, walkEnds, afterCaveat, walkedOf, scopeAt, tenantThen, tagThen, keyThen, keyFound, tokenThen, bytesThen}
+use Rattle.walking.specs.Walking.{soFar, walkEnds, afterCaveat, walkedOf, scopeAt, tenantThen, tagThen, keyThen}
+use Rattle.judging.specs.Verifying.{keyFound, tokenThen, bytesThen}
 use Rattle.bhinorpa.specs.Allowed.{caveatBytes, chainTag, keyFor, methodHolds, pathHolds, bytesHold, firstFailing, caveatChecks, scopeChecks, checksOf}
-use Rattle.judging.specs.declared.Walked.{Walked}
-use Rattle.judging.specs.declared.TokenAt.{TokenAt}
+use Rattle.walking.specs.declared.Walked.{Walked}
+use Rattle.walking.specs.declared.TokenAt.{TokenAt}
 use Rattle.judging.proofs.Found.{placed}
 
 -- answers one behind the other

@@ -10,15 +10,15 @@ use lib.ListN.{length, drop}
 use Rattle.basis.specs.Basis.{pick, between}
 use Rattle.basis.specs.Same.{sameOf}
 use Rattle.basis.proofs.Parts.{past}
-use Rattle.base64url.specs.Base64url.{base64url}
+use Rattle.text_writing.specs.Base64url.{base64url}
 use Rattle.base64url.specs.Reading.{decodedOf}
 use Rattle.base64url.proofs.TextLaws.{bytes-text, judged-text}
 use Rattle.chain.specs.Chain.{firstLink, nextLink, chainOf, tagOf}
 use Rattle.scope.specs.Scopes.{encodeScope}
 use Rattle.caveat.specs.Caveats.{Caveat, encodeCaveat}
 use Rattle.caveat.specs.Reading.{caveatOf}
-use Rattle.caveat.specs.declared.CaveatParts.{CaveatParts}
-use Rattle.caveat.specs.declared.CaveatParts.the-variants.{Of, Bad}
+use Rattle.caveat_values.specs.declared.CaveatParts.{CaveatParts}
+use Rattle.caveat_values.specs.declared.CaveatParts.the-variants.{Of, Bad}
 use Rattle.caveat.proofs.CaveatLaws.{caveat-written}
 use Rattle.token.specs.Tokens.{Token, encodeCaveats, encodeToken, AllCaveats, GoodToken}
 use Rattle.token.specs.Writing.{childBytes}
@@ -26,11 +26,12 @@ use Rattle.token.proofs.TokenWritten.{token-written}
 use Rattle.token.proofs.Holds.{Holds}
 use Rattle.tables.specs.Tables.{Row, encodeTable, GoodTable, hasRow}
 use Rattle.tables.proofs.TableLaws.{table-written, find-finds, key-of-row}
-use Rattle.judging.specs.Verifying.{afterCaveat}
+use Rattle.walking.specs.Walking.{afterCaveat}
 use Rattle.judging.proofs.Found.{placed}
-use Rattle.issuing.specs.Handing.{Handed, refused, handed}
-use Rattle.issuing.specs.Narrowing.{linksOf, sized, grown, caveatThen, linkThen, keyThen, tokenThen, bytesThen, decodedThen, textThen, narrowOf}
-use Rattle.issuing.proofs.Sizes.{short-text}
+use Rattle.handing.specs.Handing.{Handed, refused, handed}
+use Rattle.growing.specs.Growing.{sized, grown, caveatThen}
+use Rattle.narrowing.specs.Narrowing.{linksOf, linkThen, keyThen, tokenThen, bytesThen, decodedThen, textThen, narrowOf}
+use Rattle.handing.proofs.Sizes.{short-text}
 use Rattle.bhinorpa.specs.Allowed.{Canonical, caveatBytes, chainTag, keyFor}
 use Rattle.bhinorpa.proofs.Judged.{front-held}
 

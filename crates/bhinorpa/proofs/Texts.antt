@@ -8,12 +8,12 @@ use borrow.Author.Tests.{ltb-true, ltb-false, lt-ltb, le-ltb, le-leb, eqb-true, 
 use lib.Dec.{ltb, eqb}
 use lib.ListN.{length}
 use Rattle.basis.specs.Basis.{pick, IsBytes}
-use Rattle.base64url.specs.Base64url.{base64url, tailLength, textLength}
+use Rattle.text_writing.specs.Base64url.{base64url, tailLength, textLength}
 use Rattle.base64url.specs.Reading.{byteLength, judgedOf, bytesOf, decodedOf}
 use Rattle.base64url.specs.declared.Judged.{Judged}
 use Rattle.base64url.specs.declared.Judged.the-variants.{Whole, Fault}
 use Rattle.base64url.proofs.Decoding.{sound}
-use Rattle.base64url.proofs.Writings.{text-length}
+use Rattle.text_writing.proofs.Writings.{text-length}
 use Rattle.base64url.proofs.TextLaws.{bytes-text, judged-text, whole-text, whole-bytes, whole-length}
 use Rattle.token.specs.Tokens.{Token, encodeToken, GoodToken}
 use Rattle.token.specs.Reading.{tokenOf}
@@ -29,7 +29,7 @@ use Rattle.rules.proofs.RuleLaws.{AskedOf}
 use Rattle.judging.specs.Verifying.{tokenThen, bytesThen, decodedThen, textThen}
 use Rattle.bhinorpa.specs.Allowed.{Canonical, firstFailing, checksOf}
 use Rattle.bhinorpa.specs.Verdicts.{TextVerdict, too-long, no-base64, unreadable, judged}
-use Rattle.issuing.proofs.Sizes.{short-text}
+use Rattle.handing.proofs.Sizes.{short-text}
 use Rattle.bhinorpa.proofs.Judged.{token-law}
 use Rattle.judging.proofs.Decoding.{too-long as long-is}
 

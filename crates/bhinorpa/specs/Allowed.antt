@@ -8,14 +8,15 @@ use lib.Dec.{leb}
 use lib.ListN.{length}
 use Rattle.basis.specs.Basis.{pick, IsBytes}
 use Rattle.basis.specs.Same.{sameOf}
-use Rattle.base64url.specs.Base64url.{base64url}
+use Rattle.text_writing.specs.Base64url.{base64url}
 use Rattle.chain.specs.Chain.{tagOf}
 use Rattle.scope.specs.Scopes.{Scope, encodeScope}
 use Rattle.caveat.specs.Caveats.{Caveat, encodeCaveat}
 use Rattle.token.specs.Tokens.{Token, encodeToken, GoodToken}
 use Rattle.tables.specs.Tables.{Row, hasRow, keyIn}
 use Rattle.requests.specs.Requests.{Request}
-use Rattle.rules.specs.Holding.{memberOf, fitsOf, ifThere, failing, caveatHolds}
+use Rattle.rules.specs.Holding.{memberOf, ifThere, failing, caveatHolds}
+use Rattle.comparing.specs.Fitting.{fitsOf}
 
 -- the one text of a token within limits. 01: "Text is Base64URL without padding ... At most 4,096 decoded bytes"
 pub record Canonical (text : List ℕ) (t : Token) : Type 0 where

@@ -6,15 +6,15 @@ use mathlib.Core.List.{List, [], _∷_, _++_}
 use Prim.Native.Nat.{ℕ, _≤_, _<_}
 use lib.ListN.{length}
 use Rattle.basis.specs.Basis.{over}
-use Rattle.base64url.specs.Base64url.{base64url, textLength}
+use Rattle.text_writing.specs.Base64url.{base64url, textLength}
 use Rattle.chain.specs.Chain.{tagOf, nextLink}
 use Rattle.scope.specs.Scopes.{Scope, encodeScope, GoodScope}
 use Rattle.caveat.specs.Caveats.{Caveat, encodeCaveat, GoodCaveat}
 use Rattle.token.specs.Tokens.{Token, encodeToken}
 use Rattle.tables.specs.Tables.{Row, hasRow, keyIn}
-use Rattle.issuing.specs.Handing.{Handed, refused, handed}
-use Rattle.issuing.specs.Narrowing.{narrowOf}
-use Rattle.issuing.specs.declared.Outcome.{Outcome}
+use Rattle.handing.specs.Handing.{Handed, refused, handed}
+use Rattle.narrowing.specs.Narrowing.{narrowOf}
+use Rattle.handing.specs.declared.Outcome.{Outcome}
 use Rattle.bhinorpa.specs.Allowed.{Canonical, chainTag, keyFor}
 use Rattle.bhinorpa.specs.Verdicts.{TableOf}
 

@@ -1,11 +1,11 @@
 // The entry points that the firmware calls. Each takes any bytes and asks nothing of them; what they promise
 // is proved to be what the demands say (proofs/Demands.antt).
-use issuing::Outcome;
+use handing::Outcome;
 ghost use mathlib.Core.Path.{_≡_};
 ghost use Rattle.judging.specs.Verifying.{verifyOf};
-ghost use Rattle.issuing.specs.Handing.{Handing};
+ghost use Rattle.handing.specs.Handing.{Handing};
 ghost use Rattle.issuing.specs.Issuing.{issueOf};
-ghost use Rattle.issuing.specs.Narrowing.{narrowOf};
+ghost use Rattle.narrowing.specs.Narrowing.{narrowOf};
 
 // Whether a token is allowed: 0, or the number of the first check that fails.
 #[no_mangle]
@@ -39,5 +39,5 @@ pub extern "C" fn bhinorpa_narrow(
 ) -> Outcome
     ensures { λ r. ⌜ Handing (narrowOf (now (table .entry)) (now (token .entry)) (now (caveat .entry))) (now (room .entry)) r (now (room .exit)) ⌝ }
 {
-    issuing::narrow(table, token, caveat, room)
+    narrowing::narrow(table, token, caveat, room)
 }

@@ -7,7 +7,8 @@ use Rattle.records.specs.Records.{littleOf, runAt, numberAt, recordThen, record
 use Rattle.tables.specs.Reading.{okFrom, tableOk}
 use Rattle.requests.specs.Reading.{fixedAt, requestOf}
 use Rattle.judging.specs.Verifying.{requestThen, verifyOf}
-use Rattle.bundle.specs.Lines.{answerOf, wordsOf, line, kindThen, linesFrom, linesOf}
+use Rattle.answers.specs.Answers.{answerOf}
+use Rattle.bundle.specs.Lines.{wordsOf, line, kindThen, linesFrom, linesOf}
 
 -- before any request, whatever the token
 pub unasked : (token : List ℕ) → verifyOf [] [] token ≡ 2

@@ -20,10 +20,10 @@ use Rattle.scope.specs.declared.ScopeParts.{ScopeParts}
 use Rattle.scope.specs.declared.ScopeParts.the-variants.{Of as ScopeIs, Bad as NoScope}
 use Rattle.scope.proofs.DefectKinds.{ScopeKind, scope-kinds}
 use Rattle.caveat.specs.Reading.{caveatOf}
-use Rattle.caveat.specs.declared.Caveat.{Caveat}
-use Rattle.caveat.specs.declared.Caveat.the-variants.{Exp, Nbf, Aud, Method, PathPrefix, IpCidr, BytesLe, Rate, Tenant, Amnesia, GovPolicyDigest, Custom}
-use Rattle.caveat.specs.declared.CaveatParts.{CaveatParts}
-use Rattle.caveat.specs.declared.CaveatParts.the-variants.{Of as CaveatIs, Bad as NoCaveat}
+use Rattle.caveat_values.specs.declared.Caveat.{Caveat}
+use Rattle.caveat_values.specs.declared.Caveat.the-variants.{Exp, Nbf, Aud, Method, PathPrefix, IpCidr, BytesLe, Rate, Tenant, Amnesia, GovPolicyDigest, Custom}
+use Rattle.caveat_values.specs.declared.CaveatParts.{CaveatParts}
+use Rattle.caveat_values.specs.declared.CaveatParts.the-variants.{Of as CaveatIs, Bad as NoCaveat}
 use Rattle.caveat.proofs.DefectKinds.{CaveatKind, caveat-kinds}
 use Rattle.token.specs.Reading.{tokenOf}
 use Rattle.token.specs.declared.TokenParts.{TokenParts}
@@ -33,11 +33,13 @@ use Rattle.tables.specs.Reading.{tableOk}
 use Rattle.requests.specs.Reading.{requestOf}
 use Rattle.requests.specs.declared.RequestParts.{RequestParts}
 use Rattle.requests.specs.declared.RequestParts.the-variants.{Of as RequestIs, Bad as NoRequest}
-use Rattle.rules.specs.Judging.{memberAt, prefixFits, limitHolds, scopeJudged, caveatHeld, failingOf, caveatJudged}
+use Rattle.comparing.specs.Comparing.{memberAt, prefixFits, limitHolds}
+use Rattle.rules.specs.Judging.{scopeJudged, caveatHeld, failingOf, caveatJudged}
 use Rattle.rules.specs.declared.Asked.{Asked}
-use Rattle.judging.specs.Verifying.{soFar, walkEnds, afterCaveat, walkedThen, walkedOf, scopeKind, scopeThen, scopeAt, tenantThen, linkFirst, keyThen, keyFound, keyOf, tokenThen, bytesThen, decodedThen, textThen, requestThen, verifyOf}
-use Rattle.judging.specs.declared.TokenAt.{TokenAt}
-use Rattle.bundle.specs.Lines.{answerOf}
+use Rattle.walking.specs.Walking.{soFar, walkEnds, afterCaveat, walkedThen, walkedOf, scopeKind, scopeThen, scopeAt, tenantThen, linkFirst, keyThen}
+use Rattle.judging.specs.Verifying.{keyFound, keyOf, tokenThen, bytesThen, decodedThen, textThen, requestThen, verifyOf}
+use Rattle.walking.specs.declared.TokenAt.{TokenAt}
+use Rattle.answers.specs.Answers.{answerOf}
 
 abbrev Low : ℕ → Type 0
 Low n = n < 22

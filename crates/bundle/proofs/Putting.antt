@@ -14,7 +14,8 @@ use Rattle.answers.specs.declared.Answer.{Answer}
 use Rattle.answers.proofs.Named.{told-row}
 use Rattle.writing.specs.Placing.{Placed}
 use Rattle.writing.proofs.Writers.{put-placed}
-use Rattle.bundle.specs.Lines.{answerOf, wordsOf, line}
+use Rattle.answers.specs.Answers.{answerOf}
+use Rattle.bundle.specs.Lines.{wordsOf, line}
 
 name-short : (a : Answer) → length (nameOf a) ≤ 21
 name-short a = let r = told-row a refl refl in rw (r .long) at (r .short)

@@ -6,48 +6,9 @@ use Prim.Native.Nat.{ℕ, zero, suc}
 use lib.Dec.{eqb, leb, ltb}
 use lib.ListN.{length}
 use Rattle.basis.specs.Basis.{pick, ascii, between, over}
-use Rattle.answers.specs.Answers.{numberOf, nameOf}
-use Rattle.answers.specs.declared.Answer.{Answer}
-use Rattle.answers.specs.declared.Answer.the-variants.{
-  Allow,
-  TableBad,
-  CtxBad,
-  ParseB64,
-  ParseCbor,
-  ParseBounds,
-  SchemaUnknownField,
-  KidUnknown,
-  MacMismatch,
-  TenantMismatch,
-  CaveatMethod,
-  CaveatPath,
-  CaveatBytes,
-  CaveatExp,
-  CaveatNbf,
-  CaveatAud,
-  CaveatIp,
-  CaveatRate,
-  CaveatTenant,
-  CaveatAmnesia,
-  CaveatPolicyDigest,
-  CaveatCustomUnknown,
-  HashBad,
-}
+use Rattle.answers.specs.Answers.{nameOf, answerOf}
 use Rattle.records.specs.Records.{afterRecord, recordAt}
 use Rattle.judging.specs.Verifying.{verifyOf}
-
--- the answers that verify gives
-abbrev pub verifys : List Answer
-verifys =
-    Allow ∷ TableBad ∷ CtxBad ∷ ParseB64 ∷ ParseCbor ∷ ParseBounds ∷ SchemaUnknownField ∷ KidUnknown ∷ MacMismatch ∷ TenantMismatch ∷ CaveatMethod ∷ CaveatPath ∷ CaveatBytes ∷ CaveatExp ∷ CaveatNbf ∷ CaveatAud ∷ CaveatIp ∷ CaveatRate ∷ CaveatTenant ∷ CaveatAmnesia ∷ CaveatPolicyDigest ∷ CaveatCustomUnknown ∷ []
-
--- the one with this number; verify gives no other (`verify-named`), so that the last is never named
-abbrev pub withNumber : ℕ → List Answer → Answer
-withNumber n [] = HashBad
-withNumber n (a ∷ rest) = pick (eqb n (numberOf a)) a (withNumber n rest)
-
-unfoldable pub answerOf : ℕ → Answer
-answerOf n = withNumber n verifys
 
 unfoldable pub wordsOf : ℕ → List ℕ
 wordsOf n = pick (eqb n 0) (ascii "allow") (ascii "deny " ++ nameOf (answerOf n))

@@ -1,51 +1,19 @@
 // Bundles judged: tables, requests and tokens in one input, and a line for each token. Tables and requests
 // are kept as places in the input; each line is written behind the last.
-use answers::Answer;
 use records::Record;
 ghost use mathlib.Core.Path.{_≡_};
 ghost use mathlib.Core.List.{[]};
 ghost use Prim.Native.Nat.{_+_, _≤_};
 ghost use lib.ListN.{length};
-ghost use Rattle.answers.specs.Answers.{nameOf};
+ghost use Rattle.answers.specs.Answers.{nameOf, answerOf};
 ghost use Rattle.writing.specs.Placing.{Placed};
-ghost use Rattle.bundle.specs.Lines.{answerOf, wordsOf, line, linesFrom, Judged};
-
-// The answer that verify's number stands for.
-fn answer_of(n: u32) -> Answer
-    ensures { λ r. ⌜ r ≡ answerOf n ⌝ }
-{
-    match n {
-        0 => Answer::Allow,
-        1 => Answer::TableBad,
-        2 => Answer::CtxBad,
-        3 => Answer::ParseB64,
-        4 => Answer::ParseCbor,
-        5 => Answer::ParseBounds,
-        6 => Answer::SchemaUnknownField,
-        7 => Answer::KidUnknown,
-        8 => Answer::MacMismatch,
-        9 => Answer::TenantMismatch,
-        10 => Answer::CaveatMethod,
-        11 => Answer::CaveatPath,
-        12 => Answer::CaveatBytes,
-        13 => Answer::CaveatExp,
-        14 => Answer::CaveatNbf,
-        15 => Answer::CaveatAud,
-        16 => Answer::CaveatIp,
-        17 => Answer::CaveatRate,
-        18 => Answer::CaveatTenant,
-        19 => Answer::CaveatAmnesia,
-        20 => Answer::CaveatPolicyDigest,
-        21 => Answer::CaveatCustomUnknown,
-        _ => Answer::HashBad,
-    }
-}
+ghost use Rattle.bundle.specs.Lines.{wordsOf, line, linesFrom, Judged};
 
 fn put_name(room: &mut [u8], at: usize, n: u32) -> usize
     requires { ⌜ at + length (nameOf (answerOf n)) ≤ length (now room) ⌝ }
     ensures { λ r. ⌜ Placed (nameOf (answerOf n)) (now (room .entry)) at r (now (room .exit)) ⌝ }
 {
-    let k = answers::name(answer_of(n), &mut room[at..]);
+    let k = answers::name(answers::answer_of(n), &mut room[at..]);
     at + k
 }
 

@@ -8,9 +8,9 @@ use lib.ListN.{length, drop, getD, length-append}
 use Rattle.basis.specs.Basis.{ascii, IsBytes}
 use Rattle.basis.specs.Same.{sameOf}
 use Rattle.basis.proofs.Parts.{past, on}
-use Rattle.cbor.specs.Heads.{head}
-use Rattle.cbor.specs.Counts.{readCount}
-use Rattle.cbor.proofs.CountLaws.{head-there, there-head, count, counted}
+use Rattle.heads.specs.Heads.{head}
+use Rattle.heads.specs.Counts.{readCount}
+use Rattle.heads.proofs.CountLaws.{head-there, there-head, count, counted}
 use Rattle.keys.specs.Keys.{keysOf, indexFrom, indexOfKey, keyAt, wantedKey}
 use Rattle.keys.specs.Maps.{text}
 use Rattle.keys.specs.declared.Names.the-variants.{Caveat as CaveatKeys, T}
@@ -19,8 +19,8 @@ use Rattle.keys.proofs.KeyLaws.{key-written, key-read, named-read, index-below,
 use Rattle.keys.proofs.StepLaws.{item-went, key-went, count-went}
 use Rattle.caveat.specs.Caveats.{Caveat, exp, nbf, aud, method, path-prefix, ip-cidr, bytes-le, rate, tenant, amnesia, gov-policy-digest, custom, tOf, vOf, encodeCaveat, GoodCaveat}
 use Rattle.caveat.specs.Reading.{valueAt, vThen, tThen, mapThen, caveatOf}
-use Rattle.caveat.specs.declared.Caveat.{Caveat as Part}
-use Rattle.caveat.specs.declared.CaveatParts.the-variants.{Of, Bad}
+use Rattle.caveat_values.specs.declared.Caveat.{Caveat as Part}
+use Rattle.caveat_values.specs.declared.CaveatParts.the-variants.{Of, Bad}
 use Rattle.caveat.proofs.Holds.{Holds}
 use Rattle.caveat.proofs.ValuesWritten.{indexOf, partAt, value-written}
 use Rattle.caveat.proofs.ValuesRead.{value-is-read}

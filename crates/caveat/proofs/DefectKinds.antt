@@ -4,7 +4,7 @@ use mathlib.Core.List.{List}
 use Prim.{Unit, tt}
 use Prim.Native.Nat.{ℕ, _-_}
 use lib.ListN.{take, drop}
-use Rattle.cbor.specs.Counts.{readCount}
+use Rattle.heads.specs.Counts.{readCount}
 use Rattle.cbor.specs.Strings.{readRun, readString}
 use Rattle.cbor.specs.declared.Class.{Class}
 use Rattle.cbor.specs.declared.Class.the-variants.{Hex}
@@ -20,11 +20,12 @@ use Rattle.keys.specs.declared.Names.the-variants.{Caveat as CaveatKeys, T, Rat
 use Rattle.keys.proofs.DefectKinds.{item-step, span-step, count-step, key-step, key-kinds, wanted-kinds, number-kinds, name-field-kinds, number-field-kinds}
 use Rattle.scope.specs.Methods.{methodsOf}
 use Rattle.scope.proofs.DefectKinds.{methods-kinds, methods-step}
-use Rattle.caveat.specs.Reading.{numberThen, numberValue, textThen, textValue, digestBad, digestThen, digestValue, methodThen, methodValue}
-use Rattle.caveat.specs.Reading.{cidrBy, cidrThen, cidrValue, rateThen, burstThen, rateMap, rateValue, flagThen, amnesiaValue}
-use Rattle.caveat.specs.Reading.{nameThen, customEnd, customThen, nsThen, customMap, customValue, valueAt, vThen, tThen, mapThen, caveatOf}
-use Rattle.caveat.specs.declared.CaveatParts.{CaveatParts}
-use Rattle.caveat.specs.declared.CaveatParts.the-variants.{Of, Bad}
+use Rattle.caveat_values.specs.Values.{numberThen, numberValue, textThen, textValue, digestBad, digestThen, digestValue, methodThen, methodValue}
+use Rattle.caveat_values.specs.Values.{cidrBy, cidrThen, cidrValue, rateThen, burstThen, rateMap, rateValue, flagThen, amnesiaValue}
+use Rattle.caveat_values.specs.Values.{nameThen, customEnd, customThen, nsThen, customMap, customValue}
+use Rattle.caveat.specs.Reading.{valueAt, vThen, tThen, mapThen, caveatOf}
+use Rattle.caveat_values.specs.declared.CaveatParts.{CaveatParts}
+use Rattle.caveat_values.specs.declared.CaveatParts.the-variants.{Of, Bad}
 use Rattle.caveat.proofs.Inside.{value-ways}
 
 abbrev pub CaveatKind : CaveatParts → Type 0

@@ -8,8 +8,8 @@ use Rattle.basis.specs.Basis.{between}
 use Rattle.keys.specs.Maps.{texts}
 use Rattle.values.specs.Trees.{Value, encode}
 use Rattle.caveat.specs.Caveats.{Caveat, exp, nbf, aud, method, path-prefix, ip-cidr, bytes-le, rate, tenant, amnesia, gov-policy-digest, custom}
-use Rattle.caveat.specs.declared.Caveat.{Caveat as Part}
-use Rattle.caveat.specs.declared.Caveat.the-variants.{Exp, Nbf, Aud, Method, PathPrefix, IpCidr, BytesLe, Rate, Tenant, Amnesia, GovPolicyDigest, Custom}
+use Rattle.caveat_values.specs.declared.Caveat.{Caveat as Part}
+use Rattle.caveat_values.specs.declared.Caveat.the-variants.{Exp, Nbf, Aud, Method, PathPrefix, IpCidr, BytesLe, Rate, Tenant, Amnesia, GovPolicyDigest, Custom}
 
 pub data Holds (s : List ℕ) : Caveat → Part → Type 0 where
   exp-is : (n : ℕ) → Holds s (exp n) (Exp n)

@@ -6,7 +6,7 @@ use native.Mathlib.Omega.{arith}
 use lib.Dec.{eqb}
 use lib.ListN.{length, take, drop}
 use Rattle.basis.proofs.Picks.{either}
-use Rattle.cbor.specs.Counts.{readCount}
+use Rattle.heads.specs.Counts.{readCount}
 use Rattle.cbor.specs.Strings.{readRun, readString}
 use Rattle.cbor.specs.declared.Class.{Class}
 use Rattle.cbor.specs.declared.Class.the-variants.{Name, Printable, Path, Hex}
@@ -22,11 +22,12 @@ use Rattle.keys.specs.declared.Names.the-variants.{Caveat as CaveatKeys, T, Rat
 use Rattle.keys.proofs.Inside.{item-step, span-step, count-step, key-step, key-in, wanted-in, name-field-in, number-field-in}
 use Rattle.scope.specs.Methods.{methodsOf}
 use Rattle.scope.proofs.Inside.{methods-in, methods-step}
-use Rattle.caveat.specs.Reading.{numberThen, numberValue, textThen, textValue, digestBad, digestThen, digestValue, methodThen, methodValue}
-use Rattle.caveat.specs.Reading.{cidrBy, cidrThen, cidrValue, rateThen, burstThen, rateMap, rateValue, flagThen, amnesiaValue}
-use Rattle.caveat.specs.Reading.{nameThen, customEnd, customThen, nsThen, customMap, customValue, valueAt, vThen, tThen, mapThen, caveatOf}
-use Rattle.caveat.specs.declared.CaveatParts.{CaveatParts}
-use Rattle.caveat.specs.declared.CaveatParts.the-variants.{Of, Bad}
+use Rattle.caveat_values.specs.Values.{numberThen, numberValue, textThen, textValue, digestBad, digestThen, digestValue, methodThen, methodValue}
+use Rattle.caveat_values.specs.Values.{cidrBy, cidrThen, cidrValue, rateThen, burstThen, rateMap, rateValue, flagThen, amnesiaValue}
+use Rattle.caveat_values.specs.Values.{nameThen, customEnd, customThen, nsThen, customMap, customValue}
+use Rattle.caveat.specs.Reading.{valueAt, vThen, tThen, mapThen, caveatOf}
+use Rattle.caveat_values.specs.declared.CaveatParts.{CaveatParts}
+use Rattle.caveat_values.specs.declared.CaveatParts.the-variants.{Of, Bad}
 
 abbrev pub CaveatIn : ℕ → CaveatParts → Type 0
 CaveatIn size (Of part next) = next ≤ size

@@ -4,7 +4,7 @@ use mathlib.Core.List.{List}
 use Prim.Native.Nat.{ℕ}
 use Rattle.basis.proofs.OneAnswer.{told}
 use Rattle.caveat.specs.Reading.{caveatOf}
-use Rattle.caveat.specs.declared.CaveatParts.{CaveatParts}
+use Rattle.caveat_values.specs.declared.CaveatParts.{CaveatParts}
 
 pub read-caveat-one-answer : (bytes : List ℕ) {r s : CaveatParts} → r ≡ caveatOf bytes → s ≡ caveatOf bytes → r ≡ s
 read-caveat-one-answer bytes p q = told p q

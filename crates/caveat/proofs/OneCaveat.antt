@@ -8,9 +8,9 @@ use Rattle.values.specs.Trees.{Value, encode, Good}
 use Rattle.values.proofs.OneTree.{one-tree}
 use Rattle.scope.proofs.MethodLaws.{methods-one}
 use Rattle.caveat.specs.Caveats.{Caveat, aud, method, path-prefix, tenant, gov-policy-digest, custom, encodeCaveat, GoodCaveat}
-use Rattle.caveat.specs.declared.Caveat.{Caveat as Part}
-use Rattle.caveat.specs.declared.CaveatParts.{CaveatParts}
-use Rattle.caveat.specs.declared.CaveatParts.the-variants.{Of}
+use Rattle.caveat_values.specs.declared.Caveat.{Caveat as Part}
+use Rattle.caveat_values.specs.declared.CaveatParts.{CaveatParts}
+use Rattle.caveat_values.specs.declared.CaveatParts.the-variants.{Of}
 use Rattle.caveat.proofs.Holds.{Holds, exp-is, nbf-is, aud-is, method-is, path-is, cidr-is, bytes-is, rate-is, tenant-is, amnesia-is, digest-is, custom-is}
 use Rattle.caveat.proofs.CaveatLaws.{partOf, caveat-written}
 

@@ -9,12 +9,12 @@ use lib.Dec.{eqb}
 use lib.ListN.{length, drop}
 use Rattle.basis.specs.Basis.{ascii, between, IsBytes}
 use Rattle.basis.proofs.Parts.{on, lies}
-use Rattle.cbor.specs.Heads.{head}
-use Rattle.cbor.specs.Counts.{readCount}
+use Rattle.heads.specs.Heads.{head}
+use Rattle.heads.specs.Counts.{readCount}
 use Rattle.cbor.specs.Strings.{readRun, readString}
 use Rattle.cbor.specs.declared.Class.{Class}
 use Rattle.cbor.specs.declared.Class.the-variants.{Name, Printable, Path, Hex}
-use Rattle.cbor.proofs.CountLaws.{there-head, counted}
+use Rattle.heads.proofs.CountLaws.{there-head, counted}
 use Rattle.cbor.proofs.StringLaws.{written-run}
 use Rattle.values.specs.Trees.{Value, encode, Good}
 use Rattle.values.specs.declared.Item.the-variants.{End}
@@ -37,12 +37,13 @@ use Rattle.keys.proofs.StepLaws.{item-went, span-went, count-went}
 use Rattle.scope.specs.Methods.{methodsOf}
 use Rattle.scope.proofs.MethodLaws.{methods-went, methods-read}
 use Rattle.caveat.specs.Caveats.{Caveat, exp, nbf, aud, method, path-prefix, ip-cidr, bytes-le, rate, tenant, amnesia, gov-policy-digest, custom, vOf, GoodCaveat}
-use Rattle.caveat.specs.Reading.{numbered, worded, numberThen, numberValue, textThen, textValue, digestThen, digestValue, methodThen, methodValue}
-use Rattle.caveat.specs.Reading.{cidrBy, cidrThen, cidrValue, rateThen, burstThen, rateMap, rateValue, flagThen, amnesiaValue}
-use Rattle.caveat.specs.Reading.{nameThen, customEnd, customThen, nsThen, customMap, customValue, valueAt}
-use Rattle.caveat.specs.declared.Caveat.{Caveat as Part}
-use Rattle.caveat.specs.declared.Caveat.the-variants.{Exp, Nbf, Aud, Method, PathPrefix, IpCidr, BytesLe, Rate, Tenant, Amnesia, GovPolicyDigest, Custom}
-use Rattle.caveat.specs.declared.CaveatParts.the-variants.{Of, Bad}
+use Rattle.caveat_values.specs.Values.{numbered, worded, numberThen, numberValue, textThen, textValue, digestThen, digestValue, methodThen, methodValue}
+use Rattle.caveat_values.specs.Values.{cidrBy, cidrThen, cidrValue, rateThen, burstThen, rateMap, rateValue, flagThen, amnesiaValue}
+use Rattle.caveat_values.specs.Values.{nameThen, customEnd, customThen, nsThen, customMap, customValue}
+use Rattle.caveat.specs.Reading.{valueAt}
+use Rattle.caveat_values.specs.declared.Caveat.{Caveat as Part}
+use Rattle.caveat_values.specs.declared.Caveat.the-variants.{Exp, Nbf, Aud, Method, PathPrefix, IpCidr, BytesLe, Rate, Tenant, Amnesia, GovPolicyDigest, Custom}
+use Rattle.caveat_values.specs.declared.CaveatParts.the-variants.{Of, Bad}
 use Rattle.caveat.proofs.Holds.{Holds, exp-is, nbf-is, aud-is, method-is, path-is, cidr-is, bytes-is, rate-is, tenant-is, amnesia-is, digest-is, custom-is}
 use Rattle.caveat.proofs.ValuesWritten.{indexOf}
 

@@ -9,9 +9,9 @@ use lib.Dec.{ltb}
 use Rattle.basis.specs.Basis.{pick, ascii}
 use Rattle.basis.specs.Same.{sameOf}
 use Rattle.basis.proofs.Parts.{past, ends, lies}
-use Rattle.cbor.specs.Heads.{head}
+use Rattle.heads.specs.Heads.{head}
 use Rattle.cbor.specs.declared.Class.the-variants.{Name, Printable, Path, Hex}
-use Rattle.cbor.proofs.CountLaws.{head-there, count}
+use Rattle.heads.proofs.CountLaws.{head-there, count}
 use Rattle.cbor.proofs.StringLaws.{read-run-written}
 use Rattle.values.specs.Trees.{Value, encode, Good}
 use Rattle.values.proofs.TreeReads.{read-encoded}
@@ -26,11 +26,12 @@ use Rattle.keys.proofs.TextLaws.{text-written, text-held}
 use Rattle.scope.specs.Scopes.{encodeMethods, GoodMethods}
 use Rattle.scope.proofs.MethodLaws.{methods-written, methods-lie}
 use Rattle.caveat.specs.Caveats.{Caveat, exp, nbf, aud, method, path-prefix, ip-cidr, bytes-le, rate, tenant, amnesia, gov-policy-digest, custom, vOf, GoodName, GoodCaveat}
-use Rattle.caveat.specs.Reading.{numbered, worded, numberValue, textValue, digestValue, methodValue, cidrBy, cidrValue, burstThen, rateMap, rateValue, amnesiaValue}
-use Rattle.caveat.specs.Reading.{customEnd, customThen, nsThen, customMap, customValue, valueAt}
-use Rattle.caveat.specs.declared.Caveat.{Caveat as Part}
-use Rattle.caveat.specs.declared.Caveat.the-variants.{Exp, Nbf, Aud, Method, PathPrefix, IpCidr, BytesLe, Rate, Tenant, Amnesia, GovPolicyDigest, Custom}
-use Rattle.caveat.specs.declared.CaveatParts.the-variants.{Of}
+use Rattle.caveat_values.specs.Values.{numbered, worded, numberValue, textValue, digestValue, methodValue, cidrBy, cidrValue, burstThen, rateMap, rateValue, amnesiaValue}
+use Rattle.caveat_values.specs.Values.{customEnd, customThen, nsThen, customMap, customValue}
+use Rattle.caveat.specs.Reading.{valueAt}
+use Rattle.caveat_values.specs.declared.Caveat.{Caveat as Part}
+use Rattle.caveat_values.specs.declared.Caveat.the-variants.{Exp, Nbf, Aud, Method, PathPrefix, IpCidr, BytesLe, Rate, Tenant, Amnesia, GovPolicyDigest, Custom}
+use Rattle.caveat_values.specs.declared.CaveatParts.the-variants.{Of}
 use Rattle.caveat.proofs.Holds.{Holds, exp-is, nbf-is, aud-is, method-is, path-is, cidr-is, bytes-is, rate-is, tenant-is, amnesia-is, digest-is, custom-is}
 
 -- the index of t

@@ -5,7 +5,7 @@ use mathlib.Core.List.{List, _++_}
 use Prim.Native.Nat.{ℕ, _<_, _^_}
 use Prim.Native.String.{String}
 use Rattle.basis.specs.Basis.{ascii}
-use Rattle.cbor.specs.Heads.{head}
+use Rattle.heads.specs.Heads.{head}
 use Rattle.cbor.specs.declared.Class.the-variants.{Name, Printable, Hex}
 use Rattle.values.specs.Trees.{Value, encode, Good}
 use Rattle.cidr.specs.Prefixes.{Prefix, textOf, Good as GoodPrefix}

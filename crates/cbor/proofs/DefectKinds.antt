@@ -5,14 +5,14 @@ use Prim.{Unit, tt}
 use Prim.Native.Nat.{ℕ, _≤_}
 use native.Mathlib.Omega.{arith}
 use lib.ListN.{length}
-use Rattle.cbor.specs.Heads.{readHead}
-use Rattle.cbor.specs.Counts.{countBy, readCount}
+use Rattle.heads.specs.Heads.{readHead}
+use Rattle.heads.specs.Counts.{countBy, readCount}
 use Rattle.cbor.specs.Strings.{runBy, readRun, contentBy, readString}
-use Rattle.cbor.specs.declared.Head.{Head}
-use Rattle.cbor.specs.declared.Head.the-variants.{Got, Bad as NoHead}
+use Rattle.heads.specs.declared.Head.{Head}
+use Rattle.heads.specs.declared.Head.the-variants.{Got, Bad as NoHead}
 use Rattle.cbor.specs.declared.Class.{Class}
-use Rattle.cbor.specs.declared.Count.{Count}
-use Rattle.cbor.specs.declared.Count.the-variants.{Of as Counted, Bad as NoCount}
+use Rattle.heads.specs.declared.Count.{Count}
+use Rattle.heads.specs.declared.Count.the-variants.{Of as Counted, Bad as NoCount}
 use Rattle.cbor.specs.declared.Span.{Span}
 use Rattle.cbor.specs.declared.Span.the-variants.{Of as Found, Bad as NoSpan}
 use Rattle.cbor.proofs.Inside.{count-ways, run-ways, content-ways}

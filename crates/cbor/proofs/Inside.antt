@@ -6,16 +6,16 @@ use borrow.Author.Tests.{ltb-false}
 use lib.Dec.{ltb, eqb}
 use lib.ListN.{length, take, drop, length-drop}
 use Rattle.basis.proofs.Picks.{either, tested}
-use Rattle.cbor.specs.Heads.{numberOf, widthOf, headBy, headAt, readHead}
-use Rattle.cbor.specs.Counts.{countBy, readCount}
+use Rattle.heads.specs.Heads.{numberOf, widthOf, headBy, headAt, readHead}
+use Rattle.heads.specs.Counts.{countBy, readCount}
 use Rattle.cbor.specs.Strings.{contentOf, runBy, readRun, contentBy, readString}
-use Rattle.cbor.specs.declared.Width.{Width}
-use Rattle.cbor.specs.declared.Width.the-variants.{Here, Follow, Refused}
-use Rattle.cbor.specs.declared.Head.{Head}
-use Rattle.cbor.specs.declared.Head.the-variants.{Got, Bad as NoHead}
+use Rattle.heads.specs.declared.Width.{Width}
+use Rattle.heads.specs.declared.Width.the-variants.{Here, Follow, Refused}
+use Rattle.heads.specs.declared.Head.{Head}
+use Rattle.heads.specs.declared.Head.the-variants.{Got, Bad as NoHead}
 use Rattle.cbor.specs.declared.Class.{Class}
-use Rattle.cbor.specs.declared.Count.{Count}
-use Rattle.cbor.specs.declared.Count.the-variants.{Of as Counted, Bad as NoCount}
+use Rattle.heads.specs.declared.Count.{Count}
+use Rattle.heads.specs.declared.Count.the-variants.{Of as Counted, Bad as NoCount}
 use Rattle.cbor.specs.declared.Span.{Span}
 use Rattle.cbor.specs.declared.Span.the-variants.{Of as Found, Bad as NoSpan}
 

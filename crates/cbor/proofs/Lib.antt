@@ -1,11 +1,6 @@
-pub mod Numbers
-pub mod HeadReads
-pub mod HeadLaws
 pub mod Classes
 pub mod RunReads
 pub mod StringLaws
 pub mod OneAnswer
-pub mod HeadLengths
-pub mod CountLaws
 pub mod Inside
 pub mod DefectKinds

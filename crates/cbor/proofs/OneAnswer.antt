@@ -4,20 +4,9 @@ use mathlib.Core.Bool.{Bool}
 use mathlib.Core.List.{List}
 use Prim.Native.Nat.{ℕ}
 use Rattle.basis.proofs.OneAnswer.{told}
-use Rattle.cbor.specs.Heads.{widthOf, readHead}
-use Rattle.cbor.specs.Counts.{readCount}
-use Rattle.cbor.specs.declared.Count.{Count}
 use Rattle.cbor.specs.Strings.{contentOf, readRun, readString}
-use Rattle.cbor.specs.declared.Width.{Width}
-use Rattle.cbor.specs.declared.Head.{Head}
 use Rattle.cbor.specs.declared.Class.{Class}
 use Rattle.cbor.specs.declared.Span.{Span}
-
-pub width-of-one-answer : (low : ℕ) {r s : Width} → r ≡ widthOf low → s ≡ widthOf low → r ≡ s
-width-of-one-answer low p q = told p q
-
-pub read-head-one-answer : (bytes : List ℕ) (at : ℕ) {r s : Head} → r ≡ readHead bytes at → s ≡ readHead bytes at → r ≡ s
-read-head-one-answer bytes at p q = told p q
 
 pub content-one-answer : (bytes : List ℕ) (class : Class) {r s : Bool} → r ≡ contentOf class bytes → s ≡ contentOf class bytes → r ≡ s
 content-one-answer bytes class p q = told p q
@@ -28,7 +17,3 @@ read-run-one-answer bytes at major low high p q = told p q
 pub read-string-one-answer : (bytes : List ℕ) (at : ℕ) (class : Class) (low high : ℕ) {r s : Span} → r ≡ readString bytes at class low high
     → s ≡ readString bytes at class low high → r ≡ s
 read-string-one-answer bytes at class low high p q = told p q
-
-pub read-count-one-answer : (bytes : List ℕ) (at major least most above : ℕ) {r s : Count} → r ≡ readCount bytes at major least most above
-    → s ≡ readCount bytes at major least most above → r ≡ s
-read-count-one-answer bytes at major least most above p q = told p q

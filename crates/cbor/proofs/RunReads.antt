@@ -8,12 +8,12 @@ use borrow.Author.Tests.{lt-ltb, le-ltb, eq-eqb, ne-eqb, ltb-false, eqb-true}
 use lib.Dec.{ltb, eqb}
 use lib.ListN.{length, take, drop}
 use Rattle.basis.specs.Basis.{pick}
-use Rattle.cbor.specs.Heads.{readHead}
+use Rattle.heads.specs.Heads.{readHead}
 use Rattle.cbor.specs.Strings.{contentOf, runBy, readRun, contentBy, readString}
 use Rattle.cbor.specs.declared.Class.{Class}
-use Rattle.cbor.specs.declared.Head.{Head}
-use Rattle.cbor.specs.declared.Head.the-variants.{Got, Bad as NoHead}
-use Rattle.cbor.proofs.HeadLaws.{next-in}
+use Rattle.heads.specs.declared.Head.{Head}
+use Rattle.heads.specs.declared.Head.the-variants.{Got, Bad as NoHead}
+use Rattle.heads.proofs.HeadLaws.{next-in}
 use Rattle.cbor.specs.declared.Span.{Span}
 use Rattle.cbor.specs.declared.Span.the-variants.{Of, Bad}
 

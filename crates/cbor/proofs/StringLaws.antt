@@ -7,14 +7,14 @@ use Prim.Native.Nat.{ℕ, _+_, _-_, _^_, _≤_, _<_}
 use native.Mathlib.Omega.{arith}
 use borrow.Author.Tests.{le-ltb, eq-eqb}
 use lib.ListN.{length, take, drop, length-append, length-drop, take-append-drop}
-use lib.Seq.{drop-drop, getD-drop, length-take-le, take-at, drop-at}
+use lib.Seq.{drop-drop, length-take-le, take-at, drop-at}
 use Rattle.basis.specs.Basis.{IsBytes}
-use Rattle.cbor.specs.Heads.{head, headAt, readHead}
+use Rattle.heads.specs.Heads.{head, headAt, readHead}
 use Rattle.cbor.specs.Strings.{string, contentOf, runBy, readRun, contentBy, readString}
 use Rattle.cbor.specs.declared.Class.{Class}
-use Rattle.cbor.specs.declared.Head.the-variants.{Got}
+use Rattle.heads.specs.declared.Head.the-variants.{Got}
 use Rattle.cbor.specs.declared.Span.the-variants.{Of}
-use Rattle.cbor.proofs.HeadLaws.{read-written, written-read}
+use Rattle.heads.proofs.HeadLaws.{read-written, written-read, drop-bytes}
 use Rattle.cbor.proofs.RunReads.{found}
 
 past : (i n : ℕ) → i + n - i ≡ n
@@ -22,9 +22,6 @@ past i n = omega arith
 
 upto : (from to : ℕ) → from ≤ to → to ≡ from + (to - from)
 upto from to h = omega arith
-
-pub drop-bytes : (k : ℕ) (s : List ℕ) → IsBytes s → IsBytes (drop k s)
-drop-bytes k s b i = rw getD-drop (b (k + i))
 
 module _ (s content rest : List ℕ) (at major : ℕ) (e : drop at s ≡ string major content ++ rest) (n : length content < 2 ^ 64) where
   -- where the content begins

@@ -6,9 +6,9 @@ use Prim.Native.Nat.{ℕ, _+_, _-_}
 use lib.ListN.{length, take, drop, getD}
 use lib.Dec.{ltb, leb, eqb}
 use Rattle.basis.specs.Basis.{pick}
-use Rattle.cbor.specs.Heads.{head, readHead}
-use Rattle.cbor.specs.declared.Head.{Head}
-use Rattle.cbor.specs.declared.Head.the-variants.{Got, Bad as NoHead}
+use Rattle.heads.specs.Heads.{head, readHead}
+use Rattle.heads.specs.declared.Head.{Head}
+use Rattle.heads.specs.declared.Head.the-variants.{Got, Bad as NoHead}
 use Rattle.cbor.specs.declared.Class.{Class}
 use Rattle.cbor.specs.declared.Class.the-variants.{Name, Printable, Path, Upper, Hex}
 use Rattle.cbor.specs.declared.Span.{Span}

@@ -10,7 +10,7 @@ use lib.ListN.{length, drop, drop-of-length-le}
 use Rattle.basis.specs.Basis.{pick, IsBytes}
 use Rattle.basis.specs.Same.{sameOf}
 use Rattle.basis.proofs.Sameness.{same-equal}
-use Rattle.base64url.specs.Base64url.{base64url}
+use Rattle.text_writing.specs.Base64url.{base64url}
 use Rattle.cbor.specs.declared.Class.the-variants.{Name}
 use Rattle.keys.specs.Maps.{GoodText}
 use Rattle.chain.specs.Chain.{firstLink, FirstOf}
@@ -27,7 +27,7 @@ use Rattle.tables.specs.Order.{sameIds}
 use Rattle.tables.specs.Tables.{Row, encodeTable, GoodFrom, GoodTable, hasRow, keyIn}
 use Rattle.tables.specs.Reading.{tableOk, findFrom}
 use Rattle.tables.proofs.TableLaws.{table-read, find-finds, key-of-row}
-use Rattle.issuing.specs.Handing.{Handed, refused, handed}
+use Rattle.handing.specs.Handing.{Handed, refused, handed}
 use Rattle.issuing.specs.Issuing.{issueWith, issueThen, issueOf, Issuable}
 use Rattle.issuing.proofs.Sizes.{fresh-few}
 

@@ -6,14 +6,14 @@ use Prim.Native.Nat.{ℕ, _≤_}
 use lib.Dec.{eqb}
 use lib.ListN.{length}
 use Rattle.basis.specs.Basis.{pick}
-use Rattle.base64url.specs.Base64url.{base64url}
+use Rattle.text_writing.specs.Base64url.{base64url}
 use Rattle.chain.specs.Chain.{firstLink}
 use Rattle.scope.specs.Reading.{scopeOf}
 use Rattle.scope.specs.declared.ScopeParts.{ScopeParts}
 use Rattle.scope.specs.declared.ScopeParts.the-variants.{Of, Bad}
 use Rattle.token.specs.Writing.{freshBytes}
 use Rattle.tables.specs.Reading.{tableOk, findFrom}
-use Rattle.issuing.specs.Handing.{Handed, refused, handed}
+use Rattle.handing.specs.Handing.{Handed, refused, handed}
 
 -- 7; then the text of a fresh token, tagged with the first link
 unfoldable pub issueWith : List ℕ → List ℕ → List ℕ → List ℕ → Handed

@@ -1,3 +1,1 @@
-pub mod Handing
 pub mod Issuing
-pub mod Narrowing

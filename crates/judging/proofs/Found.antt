@@ -1,5 +1,5 @@
 -- A token that was read, and its key: what its parts keep, and what the key decides.
-use mathlib.Core.Path.{_≡_, ap, _∙_}
+use mathlib.Core.Path.{_≡_}
 use mathlib.Core.List.{List}
 use Prim.Native.Nat.{ℕ, _≤_}
 use borrow.Author.Tests.{eq-eqb, ne-eqb}
@@ -10,9 +10,10 @@ use Rattle.token.specs.Reading.{tokenOf}
 use Rattle.token.specs.declared.TokenParts.the-variants.{Of, Bad}
 use Rattle.token.proofs.TokenRead.{token-read}
 use Rattle.rules.specs.declared.Asked.{Asked}
-use Rattle.judging.specs.Verifying.{keyThen, keyFound, tokenThen, bytesThen}
-use Rattle.judging.specs.Ready.{Ready}
-use Rattle.judging.specs.declared.TokenAt.{TokenAt}
+use Rattle.walking.specs.Walking.{keyThen}
+use Rattle.judging.specs.Verifying.{keyFound, tokenThen, bytesThen}
+use Rattle.walking.specs.Ready.{Ready}
+use Rattle.walking.specs.declared.TokenAt.{TokenAt}
 
 abbrev pub placed : ℕ → ℕ → ℕ → ℕ → ℕ → ℕ → ℕ → ℕ → ℕ → TokenAt
 placed count from scope scope-end tag kid kid-end tid tid-end =

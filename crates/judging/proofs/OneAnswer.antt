@@ -1,14 +1,9 @@
--- Each public function has one result for its arguments.
+-- Verify has one answer for its arguments.
 use mathlib.Core.Path.{_≡_}
 use mathlib.Core.List.{List}
 use Prim.Native.Nat.{ℕ}
 use Rattle.basis.proofs.OneAnswer.{told}
-use mathlib.Core.Bool.{Bool}
-use Rattle.basis.specs.Same.{sameOf}
 use Rattle.judging.specs.Verifying.{verifyOf}
 
 pub verify-one-answer : (table request token : List ℕ) {n m : ℕ} → n ≡ verifyOf table request token → m ≡ verifyOf table request token → n ≡ m
 verify-one-answer table request token x y = told x y
-
-pub same-tag-one-answer : (link tag : List ℕ) {r q : Bool} → r ≡ sameOf link tag → q ≡ sameOf link tag → r ≡ q
-same-tag-one-answer link tag x y = told x y

@@ -10,7 +10,8 @@ use lib.ListN.{length, length-append}
 use Rattle.answers.specs.Answers.{numberOf}
 use Rattle.answers.specs.declared.Answer.the-variants.{Allow}
 use Rattle.keyed_hash.specs.declared.Hashed.{Hashed}
-use Rattle.keyed_hash.specs.Tree.{rootFlag, wordsOf, bytesOf, treeOf}
+use Rattle.chunking.specs.Chunks.{rootFlag, wordsOf}
+use Rattle.keyed_hash.specs.Tree.{bytesOf, treeOf}
 use Rattle.keyed_hash.specs.KeyedHash.{hash-is, refusedHash, hashedOf}
 use Rattle.keyed_hash.specs.Fits.{Fit}
 use Rattle.keyed_hash.proofs.Halves.{any-height}

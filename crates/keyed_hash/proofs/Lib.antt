@@ -1,4 +1,3 @@
-pub mod Blocks
 pub mod Spreading
 pub mod Halves
 pub mod Hashing

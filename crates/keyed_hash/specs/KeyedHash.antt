@@ -11,7 +11,8 @@ use Rattle.basis.specs.Tabs.{tab-length, tab-below}
 use Rattle.answers.specs.Answers.{numberOf}
 use Rattle.answers.specs.declared.Answer.the-variants.{Allow, HashBad}
 use Rattle.keyed_hash.specs.declared.Hashed.{Hashed}
-use Rattle.keyed_hash.specs.Tree.{rootFlag, wordsOf, bytesOf, treeOf}
+use Rattle.chunking.specs.Chunks.{rootFlag, wordsOf}
+use Rattle.keyed_hash.specs.Tree.{bytesOf, treeOf}
 
 -- BLAKE3 in keyed mode, 32 bytes out, of a message of any length: n bytes are never more than 2^n chunks
 pub keyedHash : List ℕ → List ℕ → List ℕ

@@ -6,11 +6,11 @@ use native.Mathlib.Omega.{arith}
 use lib.ListN.{length, take, drop, getD}
 use Rattle.basis.specs.Basis.{ascii, between, IsBytes}
 use Rattle.basis.proofs.Parts.{past, ends}
-use Rattle.cbor.specs.Heads.{head}
+use Rattle.heads.specs.Heads.{head}
 use Rattle.cbor.specs.declared.Class.the-variants.{Name}
-use Rattle.cbor.specs.declared.Count.the-variants.{Of as Counted}
+use Rattle.heads.specs.declared.Count.the-variants.{Of as Counted}
 use Rattle.cbor.specs.declared.Span.the-variants.{Of as Found}
-use Rattle.cbor.proofs.CountLaws.{head-there, there-head, count, counted}
+use Rattle.heads.proofs.CountLaws.{head-there, there-head, count, counted}
 use Rattle.keys.specs.Keys.{keysOf, indexOfKey, wantedKey}
 use Rattle.keys.specs.Fields.{nameAt, nameField, numberAt, numberField}
 use Rattle.keys.specs.Maps.{text, GoodText}

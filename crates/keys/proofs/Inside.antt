@@ -7,8 +7,8 @@ use lib.ListN.{length, take, drop}
 use Rattle.basis.proofs.Picks.{either}
 use Rattle.cbor.specs.Strings.{readRun}
 use Rattle.cbor.specs.declared.Class.the-variants.{Name}
-use Rattle.cbor.specs.declared.Count.{Count}
-use Rattle.cbor.specs.declared.Count.the-variants.{Of as Counted, Bad as NoCount}
+use Rattle.heads.specs.declared.Count.{Count}
+use Rattle.heads.specs.declared.Count.the-variants.{Of as Counted, Bad as NoCount}
 use Rattle.cbor.specs.declared.Span.{Span}
 use Rattle.cbor.specs.declared.Span.the-variants.{Of as Found, Bad as NoSpan}
 use Rattle.cbor.proofs.Inside.{CountIn, SpanIn, count-in, run-in, string-in}

@@ -4,7 +4,7 @@ use mathlib.Core.List.{List}
 use Prim.Native.Nat.{ℕ}
 use Rattle.basis.proofs.OneAnswer.{told}
 use Rattle.values.specs.declared.Item.{Item}
-use Rattle.cbor.specs.declared.Count.{Count}
+use Rattle.heads.specs.declared.Count.{Count}
 use Rattle.cbor.specs.declared.Span.{Span}
 use Rattle.keys.specs.Keys.{keyAt, wantedKey}
 use Rattle.keys.specs.Fields.{nameField, numberField}

@@ -7,11 +7,11 @@ use lib.ListN.{length, take, drop, length-drop}
 use lib.Seq.{length-take-le, take-append-seam, drop-append-seam}
 use Rattle.basis.specs.Basis.{IsBytes}
 use Rattle.basis.proofs.Parts.{ends}
-use Rattle.cbor.specs.Heads.{head}
+use Rattle.heads.specs.Heads.{head}
 use Rattle.cbor.specs.Strings.{readString}
 use Rattle.cbor.specs.declared.Class.{Class}
 use Rattle.cbor.specs.declared.Span.the-variants.{Of}
-use Rattle.cbor.proofs.HeadLaws.{head-unique}
+use Rattle.heads.proofs.HeadLaws.{head-unique}
 use Rattle.cbor.proofs.RunReads.{found, held}
 use Rattle.cbor.proofs.StringLaws.{read-string-written, content-there, written-run}
 use Rattle.keys.specs.Maps.{text, GoodText}

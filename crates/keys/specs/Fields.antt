@@ -1,11 +1,11 @@
 -- A key and the value behind it, for the values that several maps have: names and numbers.
 use mathlib.Core.List.{List}
 use Prim.Native.Nat.{ℕ}
-use Rattle.cbor.specs.Counts.{readCount}
+use Rattle.heads.specs.Counts.{readCount}
 use Rattle.cbor.specs.Strings.{readString}
 use Rattle.cbor.specs.declared.Class.the-variants.{Name}
-use Rattle.cbor.specs.declared.Count.{Count}
-use Rattle.cbor.specs.declared.Count.the-variants.{Bad as NoCount}
+use Rattle.heads.specs.declared.Count.{Count}
+use Rattle.heads.specs.declared.Count.the-variants.{Bad as NoCount}
 use Rattle.cbor.specs.declared.Span.{Span}
 use Rattle.cbor.specs.declared.Span.the-variants.{Bad as NoSpan}
 use Rattle.keys.specs.Keys.{wantedKey}

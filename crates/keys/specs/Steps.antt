@@ -1,8 +1,8 @@
 -- One reading, left to right (document 01, "Reading order"): "the first defect is the answer". A step that is right hands what it
 -- found to the rest, and a step's defect is the answer of the whole.
 use Prim.Native.Nat.{ℕ}
-use Rattle.cbor.specs.declared.Count.{Count}
-use Rattle.cbor.specs.declared.Count.the-variants.{Of as Counted, Bad as NoCount}
+use Rattle.heads.specs.declared.Count.{Count}
+use Rattle.heads.specs.declared.Count.the-variants.{Of as Counted, Bad as NoCount}
 use Rattle.cbor.specs.declared.Span.{Span}
 use Rattle.cbor.specs.declared.Span.the-variants.{Of as Found, Bad as NoSpan}
 use Rattle.values.specs.declared.Item.{Item}

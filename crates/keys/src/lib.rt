@@ -1,8 +1,8 @@
 // The keys of each map and the names of t: read as text of any length, found among the names of their
 // place, and told by their index there. A defect carries document 01's number and the place.
 use cbor::Class;
-use cbor::Count;
 use cbor::Span;
+use heads::Count;
 use values::Item;
 ghost use mathlib.Core.Path.{_≡_};
 ghost use Rattle.keys.specs.Keys.{indexFrom, indexOfKey, moreTs, keyAt, wantedKey};
@@ -209,6 +209,6 @@ pub fn number_field(s: &[u8], at: usize, names: Names, want: u32, most: u64) -> 
 {
     match wanted_key(s, at, names, want) {
         Item::Bad { kind, at: a } => Count::Bad { kind, at: a },
-        Item::End { next } => cbor::read_count(s, next, 0, 0, most, 5),
+        Item::End { next } => heads::read_count(s, next, 0, 0, most, 5),
     }
 }

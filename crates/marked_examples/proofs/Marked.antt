@@ -4,11 +4,11 @@ use mathlib.Core.List.{[], _∷_}
 use mathlib.Core.Option.{none}
 use Rattle.basis.specs.Basis.{ascii}
 use Rattle.bytes.specs.Bytes.{indexOf, indexAfter}
-use Rattle.cbor.specs.Heads.{big, head, numberFrom, widthOf, headBy, headAt, readHead}
-use Rattle.cbor.specs.declared.Head.the-variants.{Bad}
+use Rattle.heads.specs.Heads.{big, head, numberFrom, widthOf, headBy, headAt, readHead}
+use Rattle.heads.specs.declared.Head.the-variants.{Bad}
 use Rattle.keys.specs.Maps.{texts}
 use Rattle.scope.specs.Scopes.{encodeMethods, encodeScope}
-use Rattle.base64url.specs.Base64url.{letterOf, base64url}
+use Rattle.text_writing.specs.Base64url.{letterOf, base64url}
 use Rattle.base64url.specs.Reading.{digitOf, badAt, unusedOf, judgedOf}
 use Rattle.base64url.specs.declared.Judged.the-variants.{Fault}
 

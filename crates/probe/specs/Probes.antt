@@ -6,14 +6,14 @@ use Prim.Native.Nat.{ℕ}
 use lib.ListN.{length}
 use lib.Dec.{leb, eqb}
 use Rattle.basis.specs.Basis.{pick, over}
-use Rattle.base64url.specs.Base64url.{base64url}
+use Rattle.text_writing.specs.Base64url.{base64url}
 use Rattle.base64url.specs.Reading.{judgedOf, bytesOf, decodedOf, leftOf}
 use Rattle.base64url.specs.declared.Decoded.{Decoded}
 use Rattle.base64url.specs.declared.Decoded.the-variants.{Bytes, Bad as NoText, Short}
-use Rattle.base64url.specs.declared.Encoded.{Encoded}
-use Rattle.base64url.specs.declared.Encoded.the-variants.{Text, NoRoom}
-use Rattle.cbor.specs.declared.Head.{Head}
-use Rattle.cbor.specs.declared.Head.the-variants.{Got, Bad as NoHead}
+use Rattle.text_writing.specs.declared.Encoded.{Encoded}
+use Rattle.text_writing.specs.declared.Encoded.the-variants.{Text, NoRoom}
+use Rattle.heads.specs.declared.Head.{Head}
+use Rattle.heads.specs.declared.Head.the-variants.{Got, Bad as NoHead}
 use Rattle.cbor.specs.declared.Span.{Span}
 use Rattle.cbor.specs.declared.Span.the-variants.{Of, Bad as NoSpan}
 use Rattle.cbor.specs.declared.Class.{Class}

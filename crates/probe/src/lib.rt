@@ -1,16 +1,16 @@
 // What the host tests call beyond the product's entry points. Nothing of the product stands on it.
 use base64url::Decoded;
-use base64url::Encoded;
 use cbor::Class;
-use cbor::Head;
 use cbor::Span;
 use cidr::Cidr;
+use heads::Head;
 use keyed_hash::Hashed;
+use text_writing::Encoded;
 use values::Item;
 ghost use mathlib.Core.Path.{_≡_};
 ghost use mathlib.Core.List.{_++_};
 ghost use Rattle.keyed_hash.specs.KeyedHash.{hashedOf};
-ghost use Rattle.cbor.specs.Heads.{readHead};
+ghost use Rattle.heads.specs.Heads.{readHead};
 ghost use Rattle.cbor.specs.Strings.{readRun, readString};
 ghost use Rattle.values.specs.Reading.{valueOf};
 ghost use Rattle.cidr.specs.Bits.{agreeOf};
@@ -197,14 +197,14 @@ pub extern "C" fn probe_base64url_decode(text: &[u8], room: &mut [u8]) -> Probed
 pub extern "C" fn probe_base64url_encode(bytes: &[u8], room: &mut [u8]) -> Probed
     ensures { λ r. ⌜ EncodeProbed (now (bytes .entry)) (now (room .entry)) r (now (room .exit)) ⌝ }
 {
-    encoded_probe(base64url::encode(bytes, room))
+    encoded_probe(text_writing::encode(bytes, room))
 }
 
 #[no_mangle]
 pub extern "C" fn probe_read_head(s: &[u8], at: usize) -> Probed
     ensures { λ r. ⌜ r ≡ headProbe (readHead (now (s .entry)) at) ⌝ }
 {
-    head_probe(cbor::read_head(s, at))
+    head_probe(heads::read_head(s, at))
 }
 
 #[no_mangle]

@@ -1,6 +1,6 @@
 // Scopes, caveats and tokens as the host tests read them. Nothing of the product stands on it.
-use caveat::Caveat;
-use caveat::CaveatParts;
+use caveat_values::Caveat;
+use caveat_values::CaveatParts;
 use scope::Limit;
 use scope::Prefix;
 use scope::ScopeParts;

@@ -2,8 +2,8 @@
 // or the name of the first defect and its place.
 use answers::Answer;
 use base64url::Decoded;
-use caveat::Caveat;
-use caveat::CaveatParts;
+use caveat_values::Caveat;
+use caveat_values::CaveatParts;
 use libc::STDOUT_FILENO;
 use scope::ScopeParts;
 use token::TokenParts;

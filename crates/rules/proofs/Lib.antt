@@ -1,4 +1,3 @@
-pub mod Walks
 pub mod RuleLaws
 pub mod Meanings
 pub mod OneAnswer

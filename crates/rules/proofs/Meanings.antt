@@ -10,7 +10,8 @@ use lib.ListN.{length, drop}
 use Rattle.basis.specs.Basis.{pick}
 use Rattle.caveat.specs.Caveats.{exp, method}
 use Rattle.requests.specs.Requests.{Request}
-use Rattle.rules.specs.Holding.{memberOf, fitsOf, caveatHolds}
+use Rattle.rules.specs.Holding.{memberOf, caveatHolds}
+use Rattle.comparing.specs.Fitting.{fitsOf}
 
 -- a prefix fits a path exactly when the path is the prefix and something behind it
 pub starts-fits : (p t : List ℕ) → fitsOf p (p ++ t) ≡ true

@@ -5,7 +5,7 @@ use Prim.Native.Nat.{ℕ}
 use Rattle.basis.proofs.OneAnswer.{told}
 use Rattle.scope.specs.declared.Prefix.{Prefix}
 use Rattle.scope.specs.declared.Limit.{Limit}
-use Rattle.caveat.specs.declared.Caveat.{Caveat}
+use Rattle.caveat_values.specs.declared.Caveat.{Caveat}
 use Rattle.rules.specs.Judging.{scopeJudged, caveatJudged}
 use Rattle.rules.specs.declared.Asked.{Asked}
 

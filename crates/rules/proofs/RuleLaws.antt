@@ -1,5 +1,5 @@
 -- Where the parts that a reading answers hold a tree, the rules where they lie are the rules on that tree.
-use mathlib.Core.Path.{_≡_, refl, ap, ap₂, _∙_}
+use mathlib.Core.Path.{_≡_, refl, ap, _∙_}
 use mathlib.Core.Bool.{Bool, true, false}
 use mathlib.Core.List.{List, [], _∷_, _++_, append-assoc}
 use mathlib.Core.Option.{Option, some, none}
@@ -7,7 +7,7 @@ use Prim.Native.Nat.{ℕ, _+_, _%_}
 use native.Mathlib.Omega.{arith}
 use lib.Dec.{leb}
 use lib.ListN.{length, drop}
-use Rattle.basis.specs.Basis.{pick, between}
+use Rattle.basis.specs.Basis.{between}
 use Rattle.basis.specs.Same.{sameOf}
 use Rattle.basis.proofs.Parts.{past}
 use Rattle.cbor.specs.declared.Class.the-variants.{Upper}
@@ -21,7 +21,7 @@ use Rattle.scope.specs.declared.Prefix.the-variants.{Absent as NoPrefix, Of as 
 use Rattle.scope.specs.declared.Limit.{Limit}
 use Rattle.scope.proofs.Holds.{limitOf, PrefixHeld, Holds as ScopeHeld}
 use Rattle.caveat.specs.Caveats.{Caveat, amnesia, GoodCaveat}
-use Rattle.caveat.specs.declared.Caveat.{Caveat as Part}
+use Rattle.caveat_values.specs.declared.Caveat.{Caveat as Part}
 use Rattle.caveat.proofs.Holds.{Holds as CaveatIs, exp-is, nbf-is, aud-is, method-is, path-is, cidr-is, bytes-is, rate-is, tenant-is, amnesia-is, digest-is, custom-is}
 use Rattle.requests.specs.Requests.{Request, PerSecond}
 use Rattle.requests.specs.declared.Peer.{Peer}
@@ -32,8 +32,10 @@ use Rattle.requests.specs.declared.Rate.{Rate}
 use Rattle.requests.specs.declared.Audience.{Audience}
 use Rattle.requests.specs.declared.Audience.the-variants.{Absent as NoAudience, Of as AudienceAt}
 use Rattle.requests.proofs.Holds.{PeerHeld, DigestHeld, rateOf, AudienceHeld}
-use Rattle.rules.specs.Holding.{memberOf, fitsOf, ifThere, onlyThere, addressBytes, within, failing, caveatHolds, scopeAnswer, caveatAnswer}
-use Rattle.rules.specs.Judging.{memberAt, rateHolds, prefixFits, limitHolds, scopeJudged, audienceIs, digestIs, peerAgrees, amnesiaHeld, caveatHeld, failingOf, caveatJudged}
+use Rattle.rules.specs.Holding.{memberOf, ifThere, onlyThere, addressBytes, within, failing, caveatHolds, scopeAnswer, caveatAnswer}
+use Rattle.comparing.specs.Fitting.{fitsOf}
+use Rattle.comparing.specs.Comparing.{memberAt, rateHolds, prefixFits, limitHolds, audienceIs, digestIs, peerAgrees}
+use Rattle.rules.specs.Judging.{scopeJudged, amnesiaHeld, caveatHeld, failingOf, caveatJudged}
 use Rattle.rules.specs.declared.Asked.{Asked}
 
 -- the methods that stand behind each other from a place on

@@ -4,7 +4,7 @@ use mathlib.Core.Bool.{Bool, true, false}
 use mathlib.Core.List.{List, [], _∷_}
 use mathlib.Core.Option.{Option, some, none}
 use Prim.Native.Nat.{ℕ, _+_}
-use lib.Dec.{eqb, leb}
+use lib.Dec.{leb}
 use Rattle.basis.specs.Basis.{pick}
 use Rattle.basis.specs.Same.{sameOf}
 use Rattle.cidr.specs.Prefixes.{Prefix}
@@ -12,17 +12,12 @@ use Rattle.cidr.specs.Bits.{agreeOf}
 use Rattle.requests.specs.Requests.{Request, PerSecond}
 use Rattle.scope.specs.Scopes.{Scope}
 use Rattle.caveat.specs.Caveats.{Caveat, exp, nbf, aud, method, path-prefix, ip-cidr, bytes-le, rate, tenant, amnesia, gov-policy-digest, custom}
+use Rattle.comparing.specs.Fitting.{fitsOf}
 
 -- "in the list"; an empty list has nothing in it
 unfoldable pub memberOf : List ℕ → List (List ℕ) → Bool
 memberOf m [] = false
 memberOf m (x ∷ xs) = pick (sameOf x m) true (memberOf m xs)
-
--- "the path starts with it": the prefix fits, byte by byte
-unfoldable pub fitsOf : List ℕ → List ℕ → Bool
-fitsOf [] path = true
-fitsOf (a ∷ p) [] = false
-fitsOf (a ∷ p) (b ∷ t) = pick (eqb a b) (fitsOf p t) false
 
 -- what holds of a part that may be absent: "if there is one"
 abbrev pub ifThere : {A : Type 0} → (A → Bool) → Option A → Bool

@@ -1,74 +1,22 @@
 -- The rules where the parts lie: of strings and lists by their places, of numbers as they were read.
 use mathlib.Core.Bool.{Bool, true, false}
-use mathlib.Core.List.{List, [], _∷_}
-use Prim.Native.Nat.{ℕ, zero, suc, _+_, _%_}
+use mathlib.Core.List.{List}
+use Prim.Native.Nat.{ℕ, _+_}
 use lib.Dec.{leb}
 use Rattle.basis.specs.Basis.{pick, between}
 use Rattle.basis.specs.Same.{sameOf}
-use Rattle.cbor.specs.Strings.{readString}
-use Rattle.cbor.specs.declared.Class.the-variants.{Upper}
-use Rattle.keys.specs.Steps.{afterSpan}
 use Rattle.scope.specs.declared.Prefix.{Prefix}
-use Rattle.scope.specs.declared.Prefix.the-variants.{Absent as NoPrefix, Of as PrefixAt}
 use Rattle.scope.specs.declared.Limit.{Limit}
-use Rattle.scope.specs.declared.Limit.the-variants.{Absent as NoLimit, Of as AtMost}
-use Rattle.cidr.specs.Bits.{agreeOf}
-use Rattle.caveat.specs.declared.Caveat.{Caveat}
-use Rattle.caveat.specs.declared.Caveat.the-variants.{Exp, Nbf, Aud, Method, PathPrefix, IpCidr, BytesLe, Rate, Tenant, Amnesia, GovPolicyDigest, Custom}
-use Rattle.requests.specs.declared.Peer.{Peer}
-use Rattle.requests.specs.declared.Peer.the-variants.{Absent as NoPeer, At as PeerAt}
-use Rattle.requests.specs.declared.Rate.{Rate as PerSecond}
-use Rattle.requests.specs.declared.Rate.the-variants.{Absent as NoRate, Of as RateIs}
-use Rattle.requests.specs.declared.Audience.{Audience}
-use Rattle.requests.specs.declared.Audience.the-variants.{Absent as NoAudience, Of as AudienceAt}
-use Rattle.requests.specs.declared.Digest.{Digest}
-use Rattle.requests.specs.declared.Digest.the-variants.{Absent as NoDigest, At as DigestAt}
-use Rattle.rules.specs.Holding.{fitsOf}
+use Rattle.caveat_values.specs.declared.Caveat.{Caveat}
+use Rattle.caveat_values.specs.declared.Caveat.the-variants.{Exp, Nbf, Aud, Method, PathPrefix, IpCidr, BytesLe, Rate, Tenant, Amnesia, GovPolicyDigest, Custom}
+use Rattle.comparing.specs.Fitting.{fitsOf}
 use Rattle.rules.specs.declared.Asked.{Asked}
-
--- no method is met where none can be read
-abbrev pub noMember : ℕ → ℕ → Bool
-noMember kind at = false
-
-abbrev pub memberThen : (ℕ → Bool) → List ℕ → List ℕ → ℕ → ℕ → Bool
-memberThen rest s m from to = pick (sameOf (between s from to) m) true (rest to)
-
--- among so many methods from a place on
-unfoldable pub memberAt : ℕ → List ℕ → List ℕ → ℕ → Bool
-memberAt zero s m at = false
-memberAt (suc k) s m at = afterSpan noMember (memberThen (memberAt k s m) s m) (readString s at Upper 1 16)
-
-unfoldable pub rateHolds : PerSecond → ℕ → ℕ → Bool
-rateHolds NoRate per-s burst = false
-rateHolds (RateIs p b) per-s burst = pick (leb p per-s) (leb b burst) false
-
--- the scope's parts; see Holds of `scope`
-unfoldable pub prefixFits : List ℕ → Prefix → List ℕ → Bool
-prefixFits s NoPrefix path = true
-prefixFits s (PrefixAt from to) path = fitsOf (between s from to) path
-
-unfoldable pub limitHolds : Limit → ℕ → Bool
-limitHolds NoLimit size = true
-limitHolds (AtMost n) size = leb size n
+use Rattle.comparing.specs.Comparing.{memberAt, rateHolds, prefixFits, limitHolds, audienceIs, digestIs, peerAgrees}
 
 -- 0, or the number of the first of method, path and bytes that fails
 unfoldable pub scopeJudged : List ℕ → Prefix → ℕ → ℕ → Limit → List ℕ → List ℕ → ℕ → ℕ
 scopeJudged s prefix count from limit method path size =
     pick (memberAt count s method from) (pick (prefixFits s prefix path) (pick (limitHolds limit size) 0 12) 11) 10
-
--- the request's parts in its body; see Holds of `requests`
-unfoldable pub audienceIs : List ℕ → Audience → List ℕ → Bool
-audienceIs body NoAudience a = false
-audienceIs body (AudienceAt from to) a = sameOf a (between body from to)
-
-unfoldable pub digestIs : List ℕ → Digest → List ℕ → Bool
-digestIs body NoDigest d = false
-digestIs body (DigestAt from) d = sameOf d (between body from (from + 64))
-
--- the four address bytes, in written order
-unfoldable pub peerAgrees : List ℕ → Peer → ℕ → ℕ → ℕ → ℕ → ℕ → Bool
-peerAgrees body NoPeer a b c d n = false
-peerAgrees body (PeerAt from) a b c d n = agreeOf (a % 256 ∷ b % 256 ∷ c % 256 ∷ d % 256 ∷ []) (between body from (from + 4)) n
 
 -- "amnesia, true needs the host's flag, false always holds"
 unfoldable pub amnesiaHeld : Bool → Bool → Bool

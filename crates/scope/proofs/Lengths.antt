@@ -4,8 +4,8 @@ use mathlib.Core.Option.{Option, some, none}
 use Prim.Native.Nat.{ℕ, _+_, _*_, _≤_, _<_}
 use native.Mathlib.Omega.{arith}
 use lib.ListN.{length, length-append}
-use Rattle.cbor.specs.Heads.{head}
-use Rattle.cbor.proofs.HeadLengths.{head-one, head-three, head-nine}
+use Rattle.heads.specs.Heads.{head}
+use Rattle.heads.proofs.HeadLengths.{head-one, head-three, head-nine}
 use Rattle.keys.specs.Maps.{text, texts, entryIf, IfPresent, present}
 use Rattle.scope.specs.Scopes.{Scope, encodeMethods, encodeScope, AllMethods, GoodMethods, GoodPath, GoodScope}
 

@@ -10,12 +10,12 @@ use lib.Dec.{eqb, ltb}
 use lib.ListN.{length, drop}
 use Rattle.basis.specs.Basis.{pick, ascii, IsBytes}
 use Rattle.basis.proofs.Parts.{on}
-use Rattle.cbor.specs.Heads.{head}
+use Rattle.heads.specs.Heads.{head}
 use Rattle.cbor.specs.Strings.{readString}
-use Rattle.cbor.specs.Counts.{readCount}
+use Rattle.heads.specs.Counts.{readCount}
 use Rattle.cbor.specs.declared.Class.the-variants.{Path}
-use Rattle.cbor.specs.declared.Count.the-variants.{Of as Counted}
-use Rattle.cbor.proofs.CountLaws.{there-head, counted}
+use Rattle.heads.specs.declared.Count.the-variants.{Of as Counted}
+use Rattle.heads.proofs.CountLaws.{there-head, counted}
 use Rattle.keys.specs.Keys.{keysOf, keyAt, wantedKey}
 use Rattle.keys.specs.Fields.{numberField}
 use Rattle.keys.specs.Maps.{text, texts, entryIf, present, IfPresent}

@@ -10,9 +10,9 @@ use lib.ListN.{length, drop, length-append}
 use Rattle.basis.specs.Basis.{ascii}
 use Rattle.basis.specs.Same.{sameOf}
 use Rattle.basis.proofs.Parts.{past, ends}
-use Rattle.cbor.specs.Heads.{head}
+use Rattle.heads.specs.Heads.{head}
 use Rattle.cbor.specs.declared.Class.the-variants.{Path}
-use Rattle.cbor.proofs.CountLaws.{head-there, count}
+use Rattle.heads.proofs.CountLaws.{head-there, count}
 use Rattle.keys.specs.Keys.{keysOf, indexFrom}
 use Rattle.keys.specs.Maps.{text, entryIf, present, IfPresent}
 use Rattle.keys.specs.declared.Names.the-variants.{Scope as ScopeKeys}

@@ -2,11 +2,11 @@
 -- "Array count over its limit .. parse.bounds".
 use mathlib.Core.List.{List}
 use Prim.Native.Nat.{ℕ}
-use Rattle.cbor.specs.Counts.{readCount}
+use Rattle.heads.specs.Counts.{readCount}
 use Rattle.cbor.specs.Strings.{readString}
 use Rattle.cbor.specs.declared.Class.the-variants.{Upper}
-use Rattle.cbor.specs.declared.Count.{Count}
-use Rattle.cbor.specs.declared.Count.the-variants.{Of as Counted, Bad as NoCount}
+use Rattle.heads.specs.declared.Count.{Count}
+use Rattle.heads.specs.declared.Count.the-variants.{Of as Counted, Bad as NoCount}
 use Rattle.cbor.specs.declared.Span.{Span}
 use Rattle.cbor.specs.declared.Span.the-variants.{Of as Found, Bad as NoSpan}
 use Rattle.values.specs.Reading.{itemsOf}

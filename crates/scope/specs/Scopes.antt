@@ -4,7 +4,7 @@ use mathlib.Core.List.{List, [], _∷_, _++_}
 use mathlib.Core.Option.{Option}
 use Prim.Native.Nat.{ℕ, _+_, _<_, _≤_, _^_}
 use lib.ListN.{length}
-use Rattle.cbor.specs.Heads.{head}
+use Rattle.heads.specs.Heads.{head}
 use Rattle.cbor.specs.declared.Class.the-variants.{Path, Upper}
 use Rattle.keys.specs.Maps.{text, texts, entry, entryIf, present, IfPresent, GoodText}
 

@@ -1,8 +1,8 @@
 // Scopes: what they are, how they are written and how they are read. A reader takes a slice of any length
 // and a place in it; a defect carries document 01's number and the place of the item at fault.
 use cbor::Class;
-use cbor::Count;
 use cbor::Span;
+use heads::Count;
 use keys::Key;
 use keys::Names;
 use values::Item;
@@ -74,7 +74,7 @@ fn methods_end(s: &[u8], from: usize, count: u64) -> Item
 pub fn read_methods(s: &[u8], at: usize) -> Methods
     ensures { λ r. ⌜ r ≡ methodsOf (now (s .entry)) at ⌝ }
 {
-    let count = cbor::read_count(s, at, 4, 0, 16, 5);
+    let count = heads::read_count(s, at, 4, 0, 16, 5);
     match count {
         Count::Bad { kind, at: a } => Methods::Bad { kind, at: a },
         Count::Of { n, next: from } => match methods_end(s, from, n) {
@@ -151,7 +151,7 @@ fn prefix_then(s: &[u8], at: usize, n: u64, next: usize) -> ScopeParts
 pub fn read_scope(s: &[u8], at: usize) -> ScopeParts
     ensures { λ r. ⌜ r ≡ scopeOf (now (s .entry)) at ⌝ }
 {
-    match cbor::read_count(s, at, 5, 1, 3, 6) {
+    match heads::read_count(s, at, 5, 1, 3, 6) {
         Count::Bad { kind, at: a } => ScopeParts::Bad { kind, at: a },
         Count::Of { n, next: p } => match keys::key_at(s, p, Names::Scope) {
             Key::Bad { kind, at: a } => ScopeParts::Bad { kind, at: a },

@@ -9,18 +9,18 @@ use lib.ListN.{length, drop}
 use lib.Seq.{drop-drop}
 use Rattle.basis.specs.Basis.{IsBytes}
 use Rattle.basis.proofs.Parts.{past, ends, on}
-use Rattle.cbor.proofs.StringLaws.{drop-bytes}
+use Rattle.heads.proofs.HeadLaws.{drop-bytes}
 use Rattle.values.specs.Reading.{andThen, itemsOf}
 use Rattle.values.specs.declared.Item.{Item}
 use Rattle.values.specs.declared.Item.the-variants.{End, Bad as NoItem}
 use Rattle.caveat.specs.Caveats.{Caveat, encodeCaveat, GoodCaveat}
 use Rattle.caveat.specs.Reading.{caveatOf}
-use Rattle.caveat.specs.declared.CaveatParts.{CaveatParts}
-use Rattle.caveat.specs.declared.CaveatParts.the-variants.{Of as CaveatAt, Bad as NoCaveat}
+use Rattle.caveat_values.specs.declared.CaveatParts.{CaveatParts}
+use Rattle.caveat_values.specs.declared.CaveatParts.the-variants.{Of as CaveatAt, Bad as NoCaveat}
 use Rattle.caveat.proofs.CaveatLaws.{caveat-written, caveat-read}
 use Rattle.caveat.proofs.OneCaveat.{caveat-one}
 use Rattle.token.specs.Tokens.{encodeCaveats, AllCaveats}
-use Rattle.token.specs.Reading.{endBy, caveatEnd}
+use Rattle.token_front.specs.Front.{endBy, caveatEnd}
 
 caveat-there : (c : Caveat) → GoodCaveat c → (s rest : List ℕ) (at : ℕ) → drop at s ≡ encodeCaveat c ++ rest → caveatEnd s at ≡ End (at + length (encodeCaveat c))
 unfolding endBy

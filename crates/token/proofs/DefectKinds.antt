@@ -6,7 +6,7 @@ use Prim.Native.Nat.{ℕ}
 use lib.Dec.{eqb}
 use lib.ListN.{length, drop}
 use Rattle.basis.proofs.Picks.{either}
-use Rattle.cbor.specs.Counts.{readCount}
+use Rattle.heads.specs.Counts.{readCount}
 use Rattle.cbor.specs.Strings.{readRun}
 use Rattle.cbor.specs.declared.Span.the-variants.{Of as Found, Bad as NoSpan}
 use Rattle.cbor.proofs.DefectKinds.{Kind, kind-4, kind-5, kind-6, SpanKind, count-kinds, run-kinds}
@@ -20,16 +20,16 @@ use Rattle.keys.proofs.DefectKinds.{item-step, span-step, count-step, wanted-ki
 use Rattle.scope.specs.Reading.{scopeOf}
 use Rattle.scope.proofs.DefectKinds.{scope-kinds, scope-step}
 use Rattle.caveat.specs.Reading.{caveatOf}
-use Rattle.caveat.specs.declared.CaveatParts.{CaveatParts}
-use Rattle.caveat.specs.declared.CaveatParts.the-variants.{Of as CaveatAt, Bad as NoCaveat}
+use Rattle.caveat_values.specs.declared.CaveatParts.{CaveatParts}
+use Rattle.caveat_values.specs.declared.CaveatParts.the-variants.{Of as CaveatAt, Bad as NoCaveat}
 use Rattle.caveat.proofs.DefectKinds.{CaveatKind, caveat-kinds}
-use Rattle.token.specs.Reading.{endBy, caveatEnd, frontThen, rThen, rKeyThen, caveatsThen, cThen, mapThen, frontOf}
-use Rattle.token.specs.Reading.{tagBad, tagAt, tagField, versionThen, versionAt, versionField, endThen, tidThen, kidThen, vThen, backOf}
+use Rattle.token_front.specs.Front.{endBy, caveatEnd, frontThen, rThen, rKeyThen, caveatsThen, cThen, mapThen, frontOf}
+use Rattle.token_back.specs.Back.{tagBad, tagAt, tagField, versionThen, versionAt, versionField, endThen, tidThen, kidThen, vThen, backOf}
 use Rattle.token.specs.Reading.{tokenThen, tokenBy, tokenOf}
-use Rattle.token.specs.declared.Front.{Front}
-use Rattle.token.specs.declared.Front.the-variants.{Of as FrontOf, Bad as NoFront}
-use Rattle.token.specs.declared.Back.{Back}
-use Rattle.token.specs.declared.Back.the-variants.{Of as BackOf, Bad as NoBack}
+use Rattle.token_front.specs.declared.Front.{Front}
+use Rattle.token_front.specs.declared.Front.the-variants.{Of as FrontOf, Bad as NoFront}
+use Rattle.token_back.specs.declared.Back.{Back}
+use Rattle.token_back.specs.declared.Back.the-variants.{Of as BackOf, Bad as NoBack}
 use Rattle.token.specs.declared.TokenParts.{TokenParts}
 use Rattle.token.specs.declared.TokenParts.the-variants.{Of, Bad}
 

@@ -1,4 +1,3 @@
-pub mod Lent
 pub mod Holds
 pub mod CaveatLists
 pub mod TokenWritten

@@ -9,11 +9,11 @@ use lib.ListN.{length, drop, length-drop, drop-of-length-le}
 use lib.Seq.{length-take-le}
 use Rattle.basis.specs.Basis.{ascii, between, IsBytes}
 use Rattle.basis.proofs.Parts.{on, lies}
-use Rattle.cbor.specs.Heads.{head}
-use Rattle.cbor.specs.Counts.{readCount}
+use Rattle.heads.specs.Heads.{head}
+use Rattle.heads.specs.Counts.{readCount}
 use Rattle.cbor.specs.Strings.{string, readRun}
 use Rattle.cbor.specs.declared.Span.the-variants.{Of as Found, Bad as NoSpan}
-use Rattle.cbor.proofs.CountLaws.{there-head, counted}
+use Rattle.heads.proofs.CountLaws.{there-head, counted}
 use Rattle.cbor.proofs.RunReads.{found}
 use Rattle.cbor.proofs.StringLaws.{written-run}
 use Rattle.values.specs.Reading.{itemsOf}
@@ -30,12 +30,14 @@ use Rattle.scope.specs.Reading.{scopeOf}
 use Rattle.scope.proofs.ScopeRead.{scope-read, scope-went, scope-long}
 use Rattle.caveat.specs.Caveats.{Caveat, GoodName}
 use Rattle.token.specs.Tokens.{Token, encodeCaveats, tokenBytes, encodeToken, AllCaveats, GoodToken}
-use Rattle.token.specs.Reading.{caveatEnd, frontThen, rThen, rKeyThen, caveatsThen, cThen, mapThen, frontOf, tagAt, tagField, versionThen, versionAt, versionField}
-use Rattle.token.specs.Reading.{endThen, tidThen, kidThen, vThen, backOf, tokenThen, tokenBy, tokenOf}
-use Rattle.token.specs.declared.Front.{Front}
-use Rattle.token.specs.declared.Front.the-variants.{Of as FrontOf, Bad as NoFront}
-use Rattle.token.specs.declared.Back.{Back}
-use Rattle.token.specs.declared.Back.the-variants.{Of as BackOf, Bad as NoBack}
+use Rattle.token_front.specs.Front.{caveatEnd, frontThen, rThen, rKeyThen, caveatsThen, cThen, mapThen, frontOf}
+use Rattle.token_back.specs.Back.{tagAt, tagField, versionThen, versionAt, versionField}
+use Rattle.token_back.specs.Back.{endThen, tidThen, kidThen, vThen, backOf}
+use Rattle.token.specs.Reading.{tokenThen, tokenBy, tokenOf}
+use Rattle.token_front.specs.declared.Front.{Front}
+use Rattle.token_front.specs.declared.Front.the-variants.{Of as FrontOf, Bad as NoFront}
+use Rattle.token_back.specs.declared.Back.{Back}
+use Rattle.token_back.specs.declared.Back.the-variants.{Of as BackOf, Bad as NoBack}
 use Rattle.token.specs.declared.TokenParts.{TokenParts}
 use Rattle.token.specs.declared.TokenParts.the-variants.{Of}
 use Rattle.token.proofs.CaveatLists.{caveats-read}

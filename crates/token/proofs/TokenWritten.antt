@@ -8,11 +8,11 @@ use lib.ListN.{length, drop, length-append, length-drop}
 use Rattle.basis.specs.Basis.{ascii, between}
 use Rattle.basis.specs.Same.{sameOf}
 use Rattle.basis.proofs.Parts.{past, ends, lies}
-use Rattle.cbor.specs.Heads.{head}
+use Rattle.heads.specs.Heads.{head}
 use Rattle.cbor.specs.Strings.{string}
 use Rattle.cbor.specs.declared.Span.the-variants.{Of as Found}
-use Rattle.cbor.proofs.CountLaws.{head-there, count}
-use Rattle.cbor.proofs.HeadLengths.{head-one}
+use Rattle.heads.proofs.CountLaws.{head-there, count}
+use Rattle.heads.proofs.HeadLengths.{head-one}
 use Rattle.cbor.proofs.StringLaws.{read-run-written, content-there}
 use Rattle.values.specs.declared.Item.the-variants.{End}
 use Rattle.keys.specs.Keys.{keysOf, indexFrom}
@@ -24,10 +24,12 @@ use Rattle.scope.specs.Scopes.{Scope, encodeScope, GoodScope}
 use Rattle.scope.proofs.ScopeWritten.{scope-written}
 use Rattle.caveat.specs.Caveats.{Caveat, GoodName}
 use Rattle.token.specs.Tokens.{Token, encodeCaveats, tokenBytes, encodeToken, AllCaveats, GoodToken}
-use Rattle.token.specs.Reading.{rThen, rKeyThen, caveatsThen, cThen, mapThen, frontOf, tagAt, tagField, versionThen, versionAt, versionField}
-use Rattle.token.specs.Reading.{endThen, tidThen, kidThen, vThen, backOf, tokenBy, tokenOf}
-use Rattle.token.specs.declared.Front.the-variants.{Of as FrontOf}
-use Rattle.token.specs.declared.Back.the-variants.{Of as BackOf}
+use Rattle.token_front.specs.Front.{rThen, rKeyThen, caveatsThen, cThen, mapThen, frontOf}
+use Rattle.token_back.specs.Back.{tagAt, tagField, versionThen, versionAt, versionField}
+use Rattle.token_back.specs.Back.{endThen, tidThen, kidThen, vThen, backOf}
+use Rattle.token.specs.Reading.{tokenBy, tokenOf}
+use Rattle.token_front.specs.declared.Front.the-variants.{Of as FrontOf}
+use Rattle.token_back.specs.declared.Back.the-variants.{Of as BackOf}
 use Rattle.token.specs.declared.TokenParts.the-variants.{Of}
 use Rattle.token.proofs.CaveatLists.{caveats-written}
 use Rattle.token.proofs.Holds.{HoldsFront, HoldsBack, Holds}

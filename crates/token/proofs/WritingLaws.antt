@@ -4,7 +4,7 @@ use mathlib.Core.List.{List, [], _∷_, _++_, append-assoc, append-nil}
 use Prim.Native.Nat.{ℕ, _+_, _≤_, _<_}
 use native.Mathlib.Omega.{arith}
 use lib.ListN.{length, length-append}
-use Rattle.cbor.proofs.HeadLengths.{head-one, head-two}
+use Rattle.heads.proofs.HeadLengths.{head-one, head-two}
 use Rattle.scope.specs.Scopes.{Scope, encodeScope, GoodScope}
 use Rattle.scope.proofs.Lengths.{scope-short}
 use Rattle.caveat.specs.Caveats.{Caveat, encodeCaveat, GoodName, GoodCaveat}

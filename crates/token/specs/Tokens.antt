@@ -4,7 +4,7 @@ use mathlib.Core.Path.{_≡_}
 use mathlib.Core.List.{List, [], _∷_, _++_}
 use Prim.Native.Nat.{ℕ, _≤_}
 use lib.ListN.{length}
-use Rattle.cbor.specs.Heads.{head}
+use Rattle.heads.specs.Heads.{head}
 use Rattle.cbor.specs.Strings.{string}
 use Rattle.keys.specs.Maps.{text, entry}
 use Rattle.scope.specs.Scopes.{Scope, encodeScope, GoodScope}

@@ -6,7 +6,7 @@ use native.Mathlib.Omega.{arith}
 use borrow.Author.Tests.{le-leb, lt-leb}
 use lib.ListN.{length, length-append}
 use Rattle.basis.specs.Basis.{Written}
-use Rattle.cbor.proofs.HeadLengths.{head-one}
+use Rattle.heads.proofs.HeadLengths.{head-one}
 use Rattle.token.specs.Tokens.{tokenBytes}
 use Rattle.writing.specs.Placing.{Placed}
 use Rattle.writing.proofs.PlacingLaws.{placed-front, placed-fits, placed-then, head-long, shorter}

@@ -2,9 +2,9 @@
 use mathlib.Core.List.{List}
 use Prim.{Unit, tt}
 use Prim.Native.Nat.{ℕ, zero, suc}
-use Rattle.cbor.specs.Heads.{readHead}
-use Rattle.cbor.specs.declared.Head.{Head}
-use Rattle.cbor.specs.declared.Head.the-variants.{Got, Bad as NoHead}
+use Rattle.heads.specs.Heads.{readHead}
+use Rattle.heads.specs.declared.Head.{Head}
+use Rattle.heads.specs.declared.Head.the-variants.{Got, Bad as NoHead}
 use Rattle.cbor.proofs.DefectKinds.{Kind, kind-4, kind-5}
 use Rattle.values.specs.Reading.{andThen, itemsOf, byMajor, valueOf}
 use Rattle.values.specs.declared.Item.{Item}

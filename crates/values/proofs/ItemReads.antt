@@ -6,8 +6,8 @@ use Prim.Native.Nat.{ℕ, zero, suc, _+_, _-_, _≤_, _<_}
 use native.Mathlib.Omega.{arith}
 use borrow.Author.Tests.{lt-ltb, le-ltb, ne-eqb}
 use lib.ListN.{length, take, drop}
-use Rattle.cbor.specs.Heads.{readHead}
-use Rattle.cbor.specs.declared.Head.the-variants.{Got, Bad as NoHead}
+use Rattle.heads.specs.Heads.{readHead}
+use Rattle.heads.specs.declared.Head.the-variants.{Got, Bad as NoHead}
 use Rattle.values.specs.Utf8.{utf8}
 use Rattle.values.specs.Reading.{runOf, textOf, andThen, itemsOf, byMajor, valueOf}
 use Rattle.values.specs.declared.Item.{Item}

@@ -8,8 +8,8 @@ use lib.Dec.{eqb}
 use lib.ListN.{length, take, drop}
 use lib.Seq.{take-append-seam, drop-append-seam}
 use Rattle.basis.specs.Basis.{pick}
-use Rattle.cbor.specs.Heads.{head}
-use Rattle.cbor.proofs.HeadLaws.{head-unique}
+use Rattle.heads.specs.Heads.{head}
+use Rattle.heads.proofs.HeadLaws.{head-unique}
 use Rattle.values.specs.Trees.{Value, number, negative, bytes, text, simple, array, Values, none, more, count, encode, encodes, Good, AllGood}
 
 -- a tree is its head's two numbers, a string's content and an array's elements

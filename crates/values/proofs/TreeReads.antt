@@ -7,10 +7,10 @@ use native.Mathlib.Nat.{add-zero}
 use native.Mathlib.Omega.{arith}
 use borrow.Author.Tests.{le-ltb}
 use lib.ListN.{length, drop, length-append}
-use Rattle.cbor.specs.Heads.{head}
+use Rattle.heads.specs.Heads.{head}
 use Rattle.cbor.specs.Strings.{string}
 use Rattle.basis.proofs.Parts.{past, ends}
-use Rattle.cbor.proofs.CountLaws.{head-there}
+use Rattle.heads.proofs.CountLaws.{head-there}
 use Rattle.cbor.proofs.StringLaws.{written-head, fits, content-there}
 use Rattle.values.specs.Utf8.{utf8}
 use Rattle.values.specs.Reading.{runOf, textOf, andThen, itemsOf, valueOf}

@@ -9,13 +9,13 @@ use lib.Dec.{ltb, eqb}
 use lib.ListN.{length, take, drop, length-drop, take-append-drop}
 use lib.Seq.{drop-drop, length-take-le}
 use Rattle.basis.specs.Basis.{pick, IsBytes}
-use Rattle.cbor.specs.Heads.{head, readHead}
+use Rattle.heads.specs.Heads.{head, readHead}
 use Rattle.cbor.specs.Strings.{string}
-use Rattle.cbor.specs.declared.Head.{Head}
-use Rattle.cbor.specs.declared.Head.the-variants.{Got, Bad as NoHead}
-use Rattle.cbor.proofs.HeadLaws.{written-read}
-use Rattle.cbor.proofs.CountLaws.{there-head}
-use Rattle.cbor.proofs.StringLaws.{drop-bytes}
+use Rattle.heads.specs.declared.Head.{Head}
+use Rattle.heads.specs.declared.Head.the-variants.{Got, Bad as NoHead}
+use Rattle.heads.proofs.HeadLaws.{written-read}
+use Rattle.heads.proofs.CountLaws.{there-head}
+use Rattle.heads.proofs.HeadLaws.{drop-bytes}
 use Rattle.values.specs.Utf8.{utf8}
 use Rattle.values.specs.Reading.{runOf, textOf, andThen, itemsOf, byMajor, valueOf}
 use Rattle.values.specs.Trees.{Value, number, negative, bytes, text, simple, array, Values, none, more, count, encode, encodes, Good, AllGood}

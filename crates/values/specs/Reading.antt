@@ -5,9 +5,9 @@ use Prim.Native.Nat.{ℕ, zero, suc, _+_, _-_}
 use lib.ListN.{length, take, drop}
 use lib.Dec.{ltb, eqb}
 use Rattle.basis.specs.Basis.{pick}
-use Rattle.cbor.specs.Heads.{readHead}
-use Rattle.cbor.specs.declared.Head.{Head}
-use Rattle.cbor.specs.declared.Head.the-variants.{Got, Bad as NoHead}
+use Rattle.heads.specs.Heads.{readHead}
+use Rattle.heads.specs.declared.Head.{Head}
+use Rattle.heads.specs.declared.Head.the-variants.{Got, Bad as NoHead}
 use Rattle.values.specs.Utf8.{utf8}
 use Rattle.values.specs.declared.Item.{Item}
 use Rattle.values.specs.declared.Item.the-variants.{End, Bad}

@@ -1,6 +1,6 @@
 // The values of a custom caveat: read by recursion with the remaining depth as the falling number, in
 // a slice of any length, with any count of elements. UTF-8 by RFC 3629.
-use cbor::Head;
+use heads::Head;
 ghost use mathlib.Core.Path.{_≡_};
 ghost use Prim.Native.Nat.{_<_, _≤_};
 ghost use lib.ListN.{length};
@@ -173,7 +173,7 @@ fn text(s: &[u8], at: usize, next: usize, n: u64) -> Item
 pub fn read_value(s: &[u8], at: usize, depth: u8) -> Item
     ensures { λ r. ⌜ r ≡ valueOf depth (now (s .entry)) at ⌝ }
 {
-    match cbor::read_head(s, at) {
+    match heads::read_head(s, at) {
         Head::Bad { at: a } => Item::Bad { kind: 4, at: a },
         Head::Got {
             major,

@@ -6,40 +6,11 @@
 // the table's row; one example then changes a bit of it. Tokens are tenant-1's under kid-2025-10, one under
 // kid-2025-11. host/checks/tests/verify_examples.rs makes all but these two from their parts with the
 // official crate.
-use answers::Answer;
 use libc::STDOUT_FILENO;
-
-fn answer_of(number: u32) -> Answer {
-    match number {
-        0 => Answer::Allow,
-        1 => Answer::TableBad,
-        2 => Answer::CtxBad,
-        3 => Answer::ParseB64,
-        4 => Answer::ParseCbor,
-        5 => Answer::ParseBounds,
-        6 => Answer::SchemaUnknownField,
-        7 => Answer::KidUnknown,
-        8 => Answer::MacMismatch,
-        9 => Answer::TenantMismatch,
-        10 => Answer::CaveatMethod,
-        11 => Answer::CaveatPath,
-        12 => Answer::CaveatBytes,
-        13 => Answer::CaveatExp,
-        14 => Answer::CaveatNbf,
-        15 => Answer::CaveatAud,
-        16 => Answer::CaveatIp,
-        17 => Answer::CaveatRate,
-        18 => Answer::CaveatTenant,
-        19 => Answer::CaveatAmnesia,
-        20 => Answer::CaveatPolicyDigest,
-        21 => Answer::CaveatCustomUnknown,
-        _ => Answer::HashBad,
-    }
-}
 
 fn print_name(number: u32) {
     let mut room = [0u8; 32];
-    let n = answers::name(answer_of(number), &mut room);
+    let n = answers::name(answers::answer_of(number), &mut room);
     let end = basis::least(n, 32);
     io::write_all(STDOUT_FILENO, &room[..end]);
     io::write_all(STDOUT_FILENO, b"\n");

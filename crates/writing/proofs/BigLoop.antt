@@ -6,7 +6,7 @@ use Prim.Native.Nat.{ℕ, zero, suc, _-_, _/_, _%_, _≤_, _<_}
 use native.Mathlib.Omega.{arith}
 use lib.ListN.{length, take, drop, set, length-set}
 use lib.Seq.{set-split, drop-at, length-take-le}
-use Rattle.cbor.specs.Heads.{big}
+use Rattle.heads.specs.Heads.{big}
 
 pub record Put (k n : ℕ) (entry room : List ℕ) (v i : ℕ) : Type 0 where
   pub long : length room ≡ length entry

@@ -4,7 +4,7 @@ use mathlib.Core.List.{List}
 use Prim.Native.Nat.{ℕ}
 use lib.ListN.{length}
 use Rattle.basis.proofs.OneAnswer.{told}
-use Rattle.cbor.specs.Heads.{head}
+use Rattle.heads.specs.Heads.{head}
 use Rattle.cbor.specs.Strings.{string}
 use Rattle.writing.specs.Placing.{Placed}
 

@@ -10,7 +10,7 @@ use lib.Dec.{ltb}
 use lib.ListN.{length, take, length-append, length-drop}
 use lib.Seq.{drop-drop, drop-append-add, length-take-le, take-append-seam}
 use Rattle.basis.specs.Basis.{pick, over}
-use Rattle.cbor.specs.Heads.{big, head}
+use Rattle.heads.specs.Heads.{big, head}
 use Rattle.writing.specs.Placing.{placed, Placed}
 
 pub placed-front : (x e : List ℕ) → placed x 0 e ≡ over x e

@@ -10,8 +10,8 @@ use lib.ListN.{length, take, drop, set, length-set, length-drop}
 use lib.Seq.{set-split, take-all}
 use Rattle.basis.specs.Basis.{Written}
 use Rattle.basis.proofs.Rooms.{lent}
-use Rattle.cbor.specs.Heads.{big, head}
-use Rattle.cbor.proofs.HeadLaws.{bytes-length}
+use Rattle.heads.specs.Heads.{big, head}
+use Rattle.heads.proofs.HeadLaws.{bytes-length}
 use Rattle.writing.specs.Placing.{placed, Placed, Formed}
 use Rattle.writing.proofs.PlacingLaws.{placed-more}
 

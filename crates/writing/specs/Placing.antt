@@ -3,7 +3,7 @@ use mathlib.Core.Path.{_≡_}
 use mathlib.Core.List.{List, _∷_, _++_}
 use Prim.Native.Nat.{ℕ, _+_}
 use lib.ListN.{length, take, drop}
-use Rattle.cbor.specs.Heads.{big, head}
+use Rattle.heads.specs.Heads.{big, head}
 
 abbrev pub placed : List ℕ → ℕ → List ℕ → List ℕ
 placed text at room = take at room ++ (text ++ drop (at + length text) room)

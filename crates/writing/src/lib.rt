@@ -4,7 +4,7 @@ ghost use mathlib.Core.Path.{_≡_};
 ghost use mathlib.Core.List.{_++_};
 ghost use Prim.Native.Nat.{_+_, _<_, _≤_};
 ghost use lib.ListN.{length, drop};
-ghost use Rattle.cbor.specs.Heads.{big, head};
+ghost use Rattle.heads.specs.Heads.{big, head};
 ghost use Rattle.cbor.specs.Strings.{string};
 ghost use Rattle.writing.specs.Placing.{Placed, Formed};
 

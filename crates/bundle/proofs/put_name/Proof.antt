@@ -6,7 +6,7 @@ use Rattle.bundle.proofs.put_name.Tie as tie
 use Rattle.bundle.proofs.put_name.Reads as reads
 use Rattle.bundle.proofs.put_name.Lts as lts
 use Rattle.answers.proofs.name.Reads as name-reads
-use Rattle.bundle.proofs.answer_of.Reads as answer-of-reads
+use Rattle.answers.proofs.answer_of.Reads as answer-of-reads
 
 answer-of-requires : tie.Need-answer-of-requires
 answer-of-requires c κs = search needs

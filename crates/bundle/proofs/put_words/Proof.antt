@@ -1,7 +1,7 @@
 use Rattle.basis.specs.Basis.{ascii}
 use Rattle.answers.specs.Answers.{nameOf}
 use Rattle.writing.proofs.PlacingLaws.{shorter, placed-fits, placed-then}
-use Rattle.bundle.specs.Lines.{answerOf}
+use Rattle.answers.specs.Answers.{answerOf}
 use Rattle.bundle.proofs.Putting.{allows, denies}
 use borrow.Author.Needs.{needs}
 use Rattle.bundle.proofs.put_words.Statement.{statement}

@@ -6,7 +6,7 @@ use Rattle.caveat.proofs.read_caveat.Tie as tie
 use Rattle.caveat.proofs.read_caveat.Reads as reads
 use Rattle.caveat.proofs.read_caveat.Lts as lts
 use Rattle.caveat.proofs.value_at.Reads as value-at-reads
-use Rattle.cbor.proofs.read_count.Reads as read-count-reads
+use Rattle.heads.proofs.read_count.Reads as read-count-reads
 use Rattle.keys.proofs.key_at.Reads as key-at-reads
 use Rattle.keys.proofs.wanted_key.Reads as wanted-key-reads
 

@@ -5,14 +5,14 @@ use Rattle.caveat.proofs.value_at.Statement.{statement}
 use Rattle.caveat.proofs.value_at.Tie as tie
 use Rattle.caveat.proofs.value_at.Reads as reads
 use Rattle.caveat.proofs.value_at.Lts as lts
-use Rattle.caveat.proofs.amnesia_value.Reads as amnesia-value-reads
-use Rattle.caveat.proofs.cidr_value.Reads as cidr-value-reads
-use Rattle.caveat.proofs.custom_value.Reads as custom-value-reads
-use Rattle.caveat.proofs.digest_value.Reads as digest-value-reads
-use Rattle.caveat.proofs.method_value.Reads as method-value-reads
-use Rattle.caveat.proofs.number_value.Reads as number-value-reads
-use Rattle.caveat.proofs.rate_value.Reads as rate-value-reads
-use Rattle.caveat.proofs.text_value.Reads as text-value-reads
+use Rattle.caveat_values.proofs.amnesia_value.Reads as amnesia-value-reads
+use Rattle.caveat_values.proofs.cidr_value.Reads as cidr-value-reads
+use Rattle.caveat_values.proofs.custom_value.Reads as custom-value-reads
+use Rattle.caveat_values.proofs.digest_value.Reads as digest-value-reads
+use Rattle.caveat_values.proofs.method_value.Reads as method-value-reads
+use Rattle.caveat_values.proofs.number_value.Reads as number-value-reads
+use Rattle.caveat_values.proofs.rate_value.Reads as rate-value-reads
+use Rattle.caveat_values.proofs.text_value.Reads as text-value-reads
 
 text-value-requires : tie.Need-text-value-requires
 text-value-requires c κs = search needs

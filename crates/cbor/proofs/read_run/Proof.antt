@@ -1,12 +1,12 @@
 use mathlib.Core.Path.{sym, _∙_}
-use Rattle.cbor.proofs.HeadLaws.{next-in}
+use Rattle.heads.proofs.HeadLaws.{next-in}
 use Rattle.cbor.proofs.RunReads.{no-head, other-type, too-short, too-long, missing, run}
 use borrow.Author.Needs.{needs}
 use Rattle.cbor.proofs.read_run.Statement.{statement}
 use Rattle.cbor.proofs.read_run.Tie as tie
 use Rattle.cbor.proofs.read_run.Reads as reads
 use Rattle.cbor.proofs.read_run.Lts as lts
-use Rattle.cbor.proofs.read_head.Reads as read-head-reads
+use Rattle.heads.proofs.read_head.Reads as read-head-reads
 
 read-head-requires : tie.Need-read-head-requires
 read-head-requires c κs = search needs

@@ -3,7 +3,6 @@ use native.Mathlib.Omega.{arith}
 use Rattle.basis.proofs.All.{all}
 use Rattle.cbor.specs.Strings.{kindOf, isName, isPrintable, isUpper, isHex}
 use Rattle.cbor.proofs.Classes.{stretch}
-use borrow.Author.Needs.{needs}
 use Rattle.cbor.proofs.sign_kind.Statement.{statement}
 use Rattle.cbor.proofs.sign_kind.Tie as tie
 use Rattle.cbor.proofs.sign_kind.Reads as reads

@@ -1,5 +1,5 @@
 use mathlib.Core.Path.{sym, _∙_}
-use Rattle.issuing.proofs.Handings.{refused-is, moved}
+use Rattle.handing.proofs.Handings.{refused-is, moved}
 use Rattle.issuing.proofs.Fresh.{issuable, issue-bad-table, issue-bad-scope, issue-left-over, issue-found}
 use borrow.Author.Needs.{needs}
 use Rattle.issuing.proofs.issue.Statement.{statement}
@@ -7,7 +7,7 @@ use Rattle.issuing.proofs.issue.Tie as tie
 use Rattle.issuing.proofs.issue.Reads as reads
 use Rattle.issuing.proofs.issue.Lts as lts
 use Rattle.issuing.proofs.issue_with.Reads as issue-with-reads
-use Rattle.issuing.proofs.refusal.Reads as refusal-reads
+use Rattle.handing.proofs.refusal.Reads as refusal-reads
 use Rattle.scope.proofs.read_scope.Reads as read-scope-reads
 use Rattle.tables.proofs.find.Reads as find-reads
 use Rattle.tables.proofs.table_ok.Reads as table-ok-reads

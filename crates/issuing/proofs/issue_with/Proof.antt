@@ -1,7 +1,7 @@
 use Prim.Native.Nat.{ℕ}
 use native.Mathlib.Omega.{arith}
 use lib.ListN.{length-replicate, length-take}
-use Rattle.issuing.proofs.Handings.{refused-is, moved, said-inside, made-lent}
+use Rattle.handing.proofs.Handings.{refused-is, moved, said-inside, made-lent}
 use Rattle.issuing.proofs.Fresh.{first-of, fresh-fits, issued, key-missing}
 use borrow.Author.Needs.{needs}
 use Rattle.issuing.proofs.issue_with.Statement.{statement}
@@ -9,8 +9,8 @@ use Rattle.issuing.proofs.issue_with.Tie as tie
 use Rattle.issuing.proofs.issue_with.Reads as reads
 use Rattle.issuing.proofs.issue_with.Lts as lts
 use Rattle.chain.proofs.first_link.Reads as first-link-reads
-use Rattle.issuing.proofs.refusal.Reads as refusal-reads
-use Rattle.issuing.proofs.write_text.Reads as write-text-reads
+use Rattle.handing.proofs.refusal.Reads as refusal-reads
+use Rattle.handing.proofs.write_text.Reads as write-text-reads
 use Rattle.token_writing.proofs.write_fresh.Reads as write-fresh-reads
 
 first-link-requires : tie.Need-first-link-requires

@@ -6,7 +6,7 @@ use Rattle.judging.proofs.judge_bytes.Tie as tie
 use Rattle.judging.proofs.judge_bytes.Reads as reads
 use Rattle.judging.proofs.judge_bytes.Lts as lts
 use Rattle.basis.proofs.part.Reads as part-reads
-use Rattle.judging.proofs.with_key.Reads as with-key-reads
+use Rattle.walking.proofs.with_key.Reads as with-key-reads
 use Rattle.tables.proofs.find.Reads as find-reads
 use Rattle.token.proofs.read_token.Reads as read-token-reads
 

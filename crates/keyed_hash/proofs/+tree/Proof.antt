@@ -1,8 +1,8 @@
-use mathlib.Core.Path.{_≡_, sym, _∙_}
+use mathlib.Core.Path.{sym, _∙_}
 use Prim.Native.Nat.{_+_}
 use native.Mathlib.Omega.{arith}
 use borrow.Author.Needs.{needs}
-use lib.ListN.{length, length-append}
+use lib.ListN.{length-append}
 use lib.Seq.{length-take-le}
 use Rattle.keyed_hash.proofs.Halves.{one-chunk, not-flat, low-half, few, fit-left, fit-right, left-fits, right-fits, whole, halves}
 use Prim.Native.Nat.{ℕ, _<_}
@@ -12,9 +12,9 @@ use Rattle.keyed_hash.proofs.tree.Reads as tree
 use Rattle.keyed_hash.proofs.tree.Kinds as tree-kinds
 use Rattle.keyed_hash.proofs.+tree.Lts-tree as tree-lts
 use Rattle.basis.proofs.least.Reads as least-reads
-use Rattle.keyed_hash.proofs.chunk.Reads as chunk-reads
+use Rattle.chunking.proofs.chunk.Reads as chunk-reads
 use Rattle.keyed_hash.proofs.chunks.Reads as chunks-reads
-use Rattle.keyed_hash.proofs.parent.Reads as parent-reads
+use Rattle.chunking.proofs.parent.Reads as parent-reads
 use Rattle.keyed_hash.proofs.+tree.{statement}
 use Rattle.keyed_hash.proofs.+tree.Tie.{close}
 

@@ -3,7 +3,7 @@ use mathlib.Core.Path.{_≡_, refl}
 use Prim.Native.Nat.{_-_, _*_, _/_, _%_}
 use native.Mathlib.Omega.{arith}
 use lib.ListN.{length, getD}
-use Rattle.basis.proofs.Tabs.{Tabbed, tab-start, tab-step, tab-end}
+use Rattle.basis.proofs.Tabs.{Tabbed, tab-start, tab-end}
 use Rattle.keyed_hash.specs.Tree.{byteOf}
 use borrow.Author.Needs.{needs}
 use Rattle.keyed_hash.proofs.spread.Statement.{statement}

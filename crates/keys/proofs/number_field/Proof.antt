@@ -4,7 +4,7 @@ use Rattle.keys.proofs.number_field.Statement.{statement}
 use Rattle.keys.proofs.number_field.Tie as tie
 use Rattle.keys.proofs.number_field.Reads as reads
 use Rattle.keys.proofs.number_field.Lts as lts
-use Rattle.cbor.proofs.read_count.Reads as read-count-reads
+use Rattle.heads.proofs.read_count.Reads as read-count-reads
 use Rattle.keys.proofs.wanted_key.Reads as wanted-key-reads
 
 wanted-key-requires : tie.Need-wanted-key-requires

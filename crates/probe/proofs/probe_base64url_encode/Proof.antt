@@ -5,7 +5,7 @@ use Rattle.probe.proofs.probe_base64url_encode.Statement.{statement}
 use Rattle.probe.proofs.probe_base64url_encode.Tie as tie
 use Rattle.probe.proofs.probe_base64url_encode.Reads as reads
 use Rattle.probe.proofs.probe_base64url_encode.Lts as lts
-use Rattle.base64url.proofs.encode.Reads as encode-reads
+use Rattle.text_writing.proofs.encode.Reads as encode-reads
 use Rattle.probe.proofs.encoded_probe.Reads as encoded-probe-reads
 
 encode-requires : tie.Need-encode-requires

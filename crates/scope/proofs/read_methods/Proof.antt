@@ -6,7 +6,7 @@ use Rattle.scope.proofs.read_methods.Tie as tie
 use Rattle.scope.proofs.read_methods.Reads as reads
 use Rattle.scope.proofs.read_methods.Lts as lts
 use Rattle.scope.proofs.methods_end.Reads as methods-end-reads
-use Rattle.cbor.proofs.read_count.Reads as read-count-reads
+use Rattle.heads.proofs.read_count.Reads as read-count-reads
 
 read-count-requires : tie.Need-read-count-requires
 read-count-requires c κs = search needs

@@ -1,13 +1,13 @@
 use mathlib.Core.Path.{sym, _∙_}
 use borrow.Author.Needs.{needs}
-use Rattle.cbor.proofs.CountLaws.{counted}
+use Rattle.heads.proofs.CountLaws.{counted}
 use borrow.Author.Tests.{eq-eqb, ne-eqb}
 use Rattle.scope.specs.Reading.{firstThen, entriesThen, scopeOf}
 use Rattle.scope.proofs.read_scope.Statement.{statement}
 use Rattle.scope.proofs.read_scope.Tie as tie
 use Rattle.scope.proofs.read_scope.Reads as reads
 use Rattle.scope.proofs.read_scope.Lts as lts
-use Rattle.cbor.proofs.read_count.Reads as read-count-reads
+use Rattle.heads.proofs.read_count.Reads as read-count-reads
 use Rattle.keys.proofs.key_at.Reads as key-at-reads
 use Rattle.scope.proofs.methods_then.Reads as methods-then-reads
 use Rattle.scope.proofs.prefix_then.Reads as prefix-then-reads

@@ -5,8 +5,8 @@ use Rattle.token.proofs.read_token.Statement.{statement}
 use Rattle.token.proofs.read_token.Tie as tie
 use Rattle.token.proofs.read_token.Reads as reads
 use Rattle.token.proofs.read_token.Lts as lts
-use Rattle.token.proofs.read_back.Reads as read-back-reads
-use Rattle.token.proofs.read_front.Reads as read-front-reads
+use Rattle.token_back.proofs.read_back.Reads as read-back-reads
+use Rattle.token_front.proofs.read_front.Reads as read-front-reads
 
 read-front-requires : tie.Need-read-front-requires
 read-front-requires c κs = search needs

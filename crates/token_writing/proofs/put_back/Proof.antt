@@ -1,6 +1,6 @@
 use mathlib.Core.List.{_++_}
 use Rattle.basis.specs.Basis.{ascii}
-use Rattle.cbor.specs.Heads.{head}
+use Rattle.heads.specs.Heads.{head}
 use Rattle.cbor.specs.Strings.{string}
 use Rattle.keys.specs.Maps.{text}
 use Rattle.token_writing.specs.Halves.{backBytes}

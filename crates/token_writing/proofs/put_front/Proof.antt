@@ -1,7 +1,7 @@
 use mathlib.Core.List.{_++_}
 use native.Mathlib.Omega.{arith}
 use Rattle.basis.specs.Basis.{ascii}
-use Rattle.cbor.specs.Heads.{head}
+use Rattle.heads.specs.Heads.{head}
 use Rattle.keys.specs.Maps.{text}
 use Rattle.token_writing.specs.Halves.{frontBytes}
 use Rattle.token_writing.proofs.Pieces.{fits1, fits2, fits3, fits4, fits5, fits6, all-placed}

@@ -1,5 +1,5 @@
 use native.Mathlib.Omega.{arith}
-use Rattle.cbor.proofs.HeadLengths.{head-nine}
+use Rattle.heads.proofs.HeadLengths.{head-nine}
 use borrow.Author.Needs.{needs}
 use Rattle.token_writing.proofs.token_length.Statement.{statement}
 use Rattle.token_writing.proofs.token_length.Tie as tie

@@ -2,7 +2,7 @@ use mathlib.Core.Path.{_≡_, sym, _∙_}
 use Prim.Native.Nat.{_+_, _*_}
 use native.Mathlib.Omega.{arith}
 use borrow.Author.Needs.{needs}
-use Rattle.cbor.proofs.HeadLaws.{next-in}
+use Rattle.heads.proofs.HeadLaws.{next-in}
 use Rattle.values.specs.Reading.{itemsOf, valueOf}
 use Rattle.values.proofs.ItemReads.{no-head, number, bytes, text, too-small, simple, too-large, other, too-deep, array, one-bad, one-more}
 use Prim.Native.Nat.{ℕ, _<_}
@@ -14,7 +14,7 @@ use Rattle.values.proofs.+items+read_value.Lts-items as items-lts
 use Rattle.values.proofs.read_value.Reads as read-value
 use Rattle.values.proofs.read_value.Kinds as read-value-kinds
 use Rattle.values.proofs.+items+read_value.Lts-read_value as read-value-lts
-use Rattle.cbor.proofs.read_head.Reads as read-head-reads
+use Rattle.heads.proofs.read_head.Reads as read-head-reads
 use Rattle.values.proofs.run.Reads as run-reads
 use Rattle.values.proofs.text.Reads as text-reads
 use Rattle.values.proofs.+items+read_value.{statement}

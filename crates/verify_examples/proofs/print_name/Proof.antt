@@ -9,7 +9,7 @@ use Rattle.verify_examples.proofs.print_name.Lts as lts
 use Rattle.answers.proofs.name.Reads as name-reads
 use Rattle.basis.proofs.least.Reads as least-reads
 use Rattle.io.proofs.write_all.Reads as write-all-reads
-use Rattle.verify_examples.proofs.answer_of.Reads as answer-of-reads
+use Rattle.answers.proofs.answer_of.Reads as answer-of-reads
 
 answer-of-requires : tie.Need-answer-of-requires
 answer-of-requires c κs = search needs

@@ -1,7 +1,7 @@
 use native.Mathlib.Nat.{mod-eq-of-lt}
 use native.Mathlib.Omega.{arith}
 use borrow.Author.Tests.{lt-ltb, le-ltb}
-use Rattle.cbor.specs.Heads.{big, head}
+use Rattle.heads.specs.Heads.{big, head}
 use borrow.Author.Needs.{needs}
 use Rattle.writing.proofs.form_of.Statement.{statement}
 use Rattle.writing.proofs.form_of.Tie as tie

@@ -1,6 +1,6 @@
 use mathlib.Core.Path.{sym}
 use native.Mathlib.Omega.{arith}
-use Rattle.cbor.proofs.HeadLengths.{head-nine}
+use Rattle.heads.proofs.HeadLengths.{head-nine}
 use Rattle.writing.proofs.Writers.{formed-length}
 use borrow.Author.Needs.{needs}
 use Rattle.writing.proofs.head_length.Statement.{statement}

@@ -1,6 +1,6 @@
 use native.Mathlib.Omega.{arith}
 use lib.ListN.{length, length-append}
-use Rattle.cbor.specs.Heads.{head}
+use Rattle.heads.specs.Heads.{head}
 use Rattle.writing.proofs.PlacingLaws.{placed-fits, placed-then}
 use borrow.Author.Needs.{needs}
 use Rattle.writing.proofs.put_string.Statement.{statement}

@@ -1,0 +1,3 @@
+pub mod Linking
+pub mod Narrowed
+pub mod OneAnswer

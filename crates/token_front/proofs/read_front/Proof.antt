@@ -1,0 +1,75 @@
+use mathlib.Core.Path.{sym, _∙_}
+use borrow.Author.Needs.{needs}
+use Rattle.token_front.specs.Front.{cThen, mapThen, frontOf}
+use Rattle.token_front.proofs.read_front.Statement.{statement}
+use Rattle.token_front.proofs.read_front.Tie as tie
+use Rattle.token_front.proofs.read_front.Reads as reads
+use Rattle.token_front.proofs.read_front.Lts as lts
+use Rattle.heads.proofs.read_count.Reads as read-count-reads
+use Rattle.keys.proofs.wanted_key.Reads as wanted-key-reads
+use Rattle.token_front.proofs.caveats_then.Reads as caveats-then-reads
+
+read-count-requires : tie.Need-read-count-requires
+read-count-requires c κs = search needs
+
+enum-known-kind : tie.Need-enum-known-kind
+enum-known-kind c = search needs
+
+enum-known-p : tie.Need-enum-known-p
+enum-known-p c = search needs
+
+wanted-key-requires : tie.Need-wanted-key-requires
+wanted-key-requires c κs = search needs
+
+enum-known-kind-2 : tie.Need-enum-known-kind-2
+enum-known-kind-2 c = search needs
+
+enum-known-q : tie.Need-enum-known-q
+enum-known-q c = search needs
+
+read-count-requires-2 : tie.Need-read-count-requires-2
+read-count-requires-2 c κs = search needs
+
+enum-known-kind-3 : tie.Need-enum-known-kind-3
+enum-known-kind-3 c = search needs
+
+enum-known-count : tie.Need-enum-known-count
+enum-known-count c = search needs
+
+caveats-then-requires : tie.Need-caveats-then-requires
+caveats-then-requires c κs = search needs
+
+returns : tie.Need-returns
+unfolding cThen mapThen frontOf
+returns c = rw (sym (c .before .before .before .read-count .ensures) ∙ c .before .kind .given .1)
+
+returns-2 : tie.Need-returns-2
+unfolding cThen mapThen frontOf
+returns-2 c = rw (sym (c .before .before .before .before .before .before .before .read-count .ensures) ∙ c .before .before .before .before .before .p .given .1, sym (c .before .before .before .wanted-key .ensures) ∙ c .before .kind2 .given .1)
+
+returns-3 : tie.Need-returns-3
+unfolding cThen mapThen frontOf
+returns-3 c = rw (sym (c .before .before .before .before .before .before .before .before .before .before .before .read-count .ensures) ∙ c .before .before .before .before .before .before .before .before .before .p .given .1, sym (c .before .before .before .before .before .before .before .wanted-key .ensures) ∙ c .before .before .before .before .before .q .given .1, sym (c .before .before .before .read-count2 .ensures) ∙ c .before .kind3 .given .1)
+
+returns-4 : tie.Need-returns-4
+unfolding cThen mapThen frontOf
+returns-4 c = rw (sym (c .before .before .before .before .before .before .before .before .before .before .before .before .read-count .ensures) ∙ c .before .before .before .before .before .before .before .before .before .before .p .given .1, sym (c .before .before .before .before .before .before .before .before .wanted-key .ensures) ∙ c .before .before .before .before .before .before .q .given .1, sym (c .before .before .before .before .read-count2 .ensures) ∙ c .before .before .count .given .1) (c .caveats-then .ensures)
+
+pub read-front-spec : {M : Type 1} → statement M
+read-front-spec =
+    tie.close
+    (tie.spec
+    read-count-requires
+    enum-known-kind
+    enum-known-p
+    wanted-key-requires
+    enum-known-kind-2
+    enum-known-q
+    read-count-requires-2
+    enum-known-kind-3
+    enum-known-count
+    caveats-then-requires
+    returns
+    returns-2
+    returns-3
+    returns-4)

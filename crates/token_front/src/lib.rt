@@ -1,0 +1,111 @@
+// The front of a token: the map's head, the caveats where they lie, and the scope. A defect carries document 01's
+// number and the place of the item at fault.
+use caveat_values::CaveatParts;
+use heads::Count;
+use keys::Names;
+use scope::ScopeParts;
+use values::Item;
+ghost use mathlib.Core.Path.{_≡_};
+ghost use lib.ListN.{drop};
+ghost use Rattle.values.specs.Reading.{itemsOf};
+ghost use Rattle.caveat.specs.Reading.{caveatOf};
+ghost use Rattle.token_front.specs.Front.{caveatEnd, caveatsThen, frontOf};
+
+// The caveats, how many and where they lie, and where the scope lies.
+pub enum Front {
+    Of {
+        count: u64,
+        from: usize,
+        to: usize,
+        scope: usize,
+        next: usize,
+    },
+    Bad {
+        kind: u32,
+        at: usize,
+    },
+}
+
+// The walk over the caveats of a token: the one that begins at a place, in a part lent from there on.
+pub fn caveat_at(s: &[u8], at: usize) -> CaveatParts
+    ensures { λ r. ⌜ r ≡ caveatOf (drop at (now (s .entry))) ⌝ }
+{
+    let from = basis::least(at, s.len());
+    caveat::read_caveat(&s[from..])
+}
+
+// Its places counted in the token.
+fn caveat_end(s: &[u8], at: usize) -> Item
+    ensures { λ r. ⌜ r ≡ caveatEnd (now (s .entry)) at ⌝ }
+{
+    match caveat_at(s, at) {
+        CaveatParts::Bad { kind, at: a } => Item::Bad { kind, at: at + a },
+        CaveatParts::Of { caveat: _, next } => Item::End { next: at + next },
+    }
+}
+
+fn caveats_end(s: &[u8], from: usize, count: u64) -> Item
+    ensures { λ r. ⌜ r ≡ itemsOf (caveatEnd (now (s .entry))) count from ⌝ }
+{
+    let mut p = from;
+    let mut k = count;
+    while 0 < k {
+        match caveat_end(s, p) {
+            Item::Bad { kind, at } => {
+                return Item::Bad { kind, at };
+            }
+            Item::End { next } => {
+                p = next;
+            }
+        }
+        k -= 1;
+    }
+    Item::End { next: p }
+}
+
+// From the first caveat on.
+fn caveats_then(s: &[u8], count: u64, from: usize) -> Front
+    ensures { λ r. ⌜ r ≡ caveatsThen (now (s .entry)) count from ⌝ }
+{
+    match caveats_end(s, from, count) {
+        Item::Bad { kind, at: a } => Front::Bad { kind, at: a },
+        Item::End { next: to } => match keys::wanted_key(s, to, Names::Token, 1) {
+            Item::Bad { kind, at: a } => Front::Bad { kind, at: a },
+            Item::End { next: scope } => match scope::read_scope(s, scope) {
+                ScopeParts::Bad { kind, at: a } => Front::Bad { kind, at: a },
+                ScopeParts::Of {
+                    prefix: _,
+                    count: _,
+                    from: _,
+                    to: _,
+                    max_bytes: _,
+                    next,
+                } => Front::Of {
+                    count,
+                    from,
+                    to,
+                    scope,
+                    next,
+                },
+            },
+        },
+    }
+}
+
+pub fn read_front(s: &[u8]) -> Front
+    ensures { λ r. ⌜ r ≡ frontOf (now (s .entry)) ⌝ }
+{
+    match heads::read_count(s, 0, 5, 6, 6, 6) {
+        Count::Bad { kind, at: a } => Front::Bad { kind, at: a },
+        Count::Of { n: _, next: p } => match keys::wanted_key(s, p, Names::Token, 0) {
+            Item::Bad { kind, at: a } => Front::Bad { kind, at: a },
+            Item::End { next: q } => match heads::read_count(s, q, 4, 0, 64, 5) {
+                Count::Bad { kind, at: a } => Front::Bad { kind, at: a },
+                Count::Of {
+                    n: count,
+                    next: from,
+                } => caveats_then(s, count, from),
+            },
+        },
+    }
+}

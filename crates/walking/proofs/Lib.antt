@@ -1,0 +1,4 @@
+pub mod Keyed
+pub mod Tags
+pub mod Walking
+pub mod OneAnswer
