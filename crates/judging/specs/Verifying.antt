@@ -1,5 +1,5 @@
 -- Verify, check by check. Document 01, "Numbers and names": "Verify: 1, 2, text over 5,462 characters (5), 3, reading (4 to 6), 7, 8, 9,
--- scope method, path, bytes (10 to 12), caveats in token order."
+-- scope method, path, bytes (10 to 12), caveats in token order." What stands behind 7 is in Walking of `walking`.
 use mathlib.Core.List.{List}
 use Prim.Native.Nat.{ℕ}
 use lib.Dec.{eqb, ltb}

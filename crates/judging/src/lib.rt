@@ -28,11 +28,9 @@ fn judge_bytes(table: &[u8], s: &[u8], body: &[u8], asked: Asked, tenant: &[u8])
             tid,
             tid_end,
         } => {
-            let key = tables::find(
-                table,
-                basis::part(s, tid, tid_end),
-                basis::part(s, kid, kid_end),
-            );
+            let tid_bytes = basis::part(s, tid, tid_end);
+            let kid_bytes = basis::part(s, kid, kid_end);
+            let key = tables::find(table, tid_bytes, kid_bytes);
             if key.len() == 32 {
                 let at = TokenAt {
                     count,

@@ -5,6 +5,7 @@ ghost use mathlib.Core.Path.{_≡_};
 ghost use Prim.Native.Nat.{_<_, _≤_};
 ghost use lib.ListN.{length};
 ghost use Rattle.values.specs.Utf8.{leadOf, stepOf, utf8};
+ghost use Rattle.values.specs.declared.Tail.the-variants.{Due};
 ghost use Rattle.values.specs.Reading.{runOf, textOf, itemsOf, valueOf};
 
 // How many bytes must still follow, and from where to where the first of them goes.
@@ -19,82 +20,44 @@ pub enum Item {
     Bad { kind: u32, at: usize },
 }
 
+fn due(n: u8, low: u8, high: u8) -> Tail
+    ensures { λ r. ⌜ r ≡ Due n low high ⌝ }
+{
+    Tail::Due { n, low, high }
+}
+
 fn lead_of(c: u8) -> Tail
     ensures { λ r. ⌜ r ≡ leadOf c ⌝ }
 {
     if c < 0x80 {
-        return Tail::Due {
-            n: 0,
-            low: 0x80,
-            high: 0xbf,
-        };
+        return due(0, 0x80, 0xbf);
     }
     if c < 0xc2 {
         return Tail::Never;
     }
     if c < 0xe0 {
-        return Tail::Due {
-            n: 1,
-            low: 0x80,
-            high: 0xbf,
-        };
+        return due(1, 0x80, 0xbf);
     }
     if c == 0xe0 {
-        return Tail::Due {
-            n: 2,
-            low: 0xa0,
-            high: 0xbf,
-        };
+        return due(2, 0xa0, 0xbf);
     }
     if c < 0xed {
-        return Tail::Due {
-            n: 2,
-            low: 0x80,
-            high: 0xbf,
-        };
+        return due(2, 0x80, 0xbf);
     }
-    lead_of_four(c)
-}
-
-// First bytes from ED on.
-fn lead_of_four(c: u8) -> Tail
-    requires { ⌜ 0xec < c ⌝ }
-    ensures { λ r. ⌜ r ≡ leadOf c ⌝ }
-{
     if c == 0xed {
-        return Tail::Due {
-            n: 2,
-            low: 0x80,
-            high: 0x9f,
-        };
+        return due(2, 0x80, 0x9f);
     }
     if c < 0xf0 {
-        return Tail::Due {
-            n: 2,
-            low: 0x80,
-            high: 0xbf,
-        };
+        return due(2, 0x80, 0xbf);
     }
     if c == 0xf0 {
-        return Tail::Due {
-            n: 3,
-            low: 0x90,
-            high: 0xbf,
-        };
+        return due(3, 0x90, 0xbf);
     }
     if c < 0xf4 {
-        return Tail::Due {
-            n: 3,
-            low: 0x80,
-            high: 0xbf,
-        };
+        return due(3, 0x80, 0xbf);
     }
     if c == 0xf4 {
-        return Tail::Due {
-            n: 3,
-            low: 0x80,
-            high: 0x8f,
-        };
+        return due(3, 0x80, 0x8f);
     }
     Tail::Never
 }
