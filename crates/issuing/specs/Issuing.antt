@@ -1,5 +1,5 @@
 -- Issue, check by check. Document 01, "Numbers and names": "Issue: 1, the scope's reading (4 to 6), 7 (also for a tid or kid of wrong
--- form), 36." The last one is the room's: see Handing.
+-- form), 36." The last one is the room's: see Handing of `handing`.
 use mathlib.Core.Path.{_≡_}
 use mathlib.Core.List.{List}
 use Prim.Native.Nat.{ℕ, _≤_}

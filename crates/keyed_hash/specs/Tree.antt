@@ -1,5 +1,5 @@
--- BLAKE3's keyed mode on lists of bytes, as the BLAKE3 paper has it in sections 2.1 ("Tree structure"), 2.3 ("Modes") and
--- 2.4 to 2.6 (chunks, parents, the root); document 01, "Chain", has its sizes and flags.
+-- BLAKE3's keyed mode on lists of bytes, as the BLAKE3 paper has it in sections 2.1 ("Tree structure"), 2.3 ("Modes")
+-- and 2.6 (the root); document 01, "Chain". Chunks and parents are in Chunks of `chunking`.
 use mathlib.Core.List.{List}
 use Prim.Native.Nat.{ℕ, zero, suc, _+_, _*_, _/_, _%_, _^_}
 use lib.ListN.{length, take, drop, getD}

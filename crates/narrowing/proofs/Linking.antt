@@ -1,4 +1,4 @@
--- The links over a parent's caveats, turn by turn: what is left of them decides. See Walking of `judging`.
+-- The links over a parent's caveats, turn by turn: what is left of them decides. See Walking of `walking`.
 use mathlib.Core.Path.{_≡_, sym, ap, _∙_}
 use mathlib.Core.List.{List}
 use Prim.Native.Nat.{ℕ, suc, _+_, _-_, _^_, _<_, _≤_, min}

@@ -1,4 +1,5 @@
--- The one reading of a token: its front, then its back.
+-- The one reading of a token: its front, then its back. Document 01, "Reading order": "One reading, left to right; the first defect is
+-- the answer."
 use mathlib.Core.List.{List}
 use Prim.Native.Nat.{ℕ}
 use lib.ListN.{length}
