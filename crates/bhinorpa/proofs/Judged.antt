@@ -1,5 +1,5 @@
 -- Of a canonical token, verify's checks where the parts lie are the checks on its tree.
-use mathlib.Core.Path.{_≡_, refl, sym, ap, ap₂, _∙_}
+use mathlib.Core.Path.{_≡_, refl, sym, _∙_}
 use mathlib.Core.Bool.{Bool, true, false}
 use mathlib.Core.List.{List, [], _∷_, _++_, append-assoc}
 use Prim.Native.Nat.{ℕ, _+_, _-_}
@@ -11,30 +11,26 @@ use lib.Seq.{take-at}
 use Rattle.basis.specs.Basis.{pick, between}
 use Rattle.basis.specs.Same.{sameOf}
 use Rattle.basis.proofs.Parts.{past}
+use Rattle.answers.specs.Answers.{numberOf}
 use Rattle.chain.specs.Chain.{firstLink, nextLink, chainOf, tagOf}
 use Rattle.scope.specs.Scopes.{Scope, encodeScope, GoodScope}
-use Rattle.scope.specs.Reading.{scopeOf}
 use Rattle.scope.proofs.ScopeWritten.{scope-written}
-use Rattle.caveat.specs.Caveats.{Caveat, encodeCaveat, GoodCaveat}
+use Rattle.caveat.specs.Caveats.{Caveat, encodeCaveat}
 use Rattle.caveat.specs.Caveats.{exp, nbf, aud, method, path-prefix, ip-cidr, bytes-le, rate, tenant, amnesia, gov-policy-digest, custom}
 use Rattle.caveat.proofs.CaveatLaws.{partOf, caveat-written}
 use Rattle.token.specs.Tokens.{Token, encodeCaveats, encodeToken, AllCaveats, GoodToken}
-use Rattle.token.specs.Reading.{tokenOf}
 use Rattle.token.proofs.TokenWritten.{token-written}
 use Rattle.token.proofs.Holds.{Holds}
-use Rattle.tables.specs.Tables.{Row, encodeTable, GoodTable, keyIn, hasRow}
-use Rattle.tables.specs.Reading.{findFrom}
+use Rattle.tables.specs.Tables.{Row, encodeTable, GoodTable}
 use Rattle.tables.proofs.TableLaws.{find-finds, key-of-row}
 use Rattle.requests.specs.Requests.{Request}
 use Rattle.rules.specs.Holding.{failing, caveatHolds, scopeAnswer, caveatAnswer}
-use Rattle.rules.specs.Judging.{scopeJudged, caveatJudged}
 use Rattle.rules.specs.declared.Asked.{Asked}
 use Rattle.rules.proofs.RuleLaws.{AskedOf, scope-law, caveat-law}
 use Rattle.walking.specs.Walking.{soFar, walkEnds, afterCaveat, walkedOf, scopeAt, tenantThen, tagThen, keyThen}
 use Rattle.judging.specs.Verifying.{keyFound, tokenThen, bytesThen}
 use Rattle.bhinorpa.specs.Allowed.{caveatBytes, chainTag, keyFor, methodHolds, pathHolds, bytesHold, firstFailing, caveatChecks, scopeChecks, checksOf}
 use Rattle.walking.specs.declared.Walked.{Walked}
-use Rattle.walking.specs.declared.TokenAt.{TokenAt}
 use Rattle.judging.proofs.Found.{placed}
 
 -- answers one behind the other
@@ -55,7 +51,7 @@ so-far-joined a b c = by (eqb a 0) refl
     by false e = rw e
 
 -- no caveat's number is that of allow
-pub failing-some : (c : Caveat) → eqb (failing c) 0 ≡ false
+pub failing-some : (c : Caveat) → eqb (numberOf (failing c)) 0 ≡ false
 unfolding failing
 failing-some (exp n) = refl
 failing-some (nbf n) = refl
@@ -70,11 +66,11 @@ failing-some (amnesia b) = refl
 failing-some (gov-policy-digest d) = refl
 failing-some (custom ns name value) = refl
 
-caveat-first : (r : Request) (tid : List ℕ) (c : Caveat) (rest : ℕ) → soFar (caveatAnswer r tid c) rest ≡ pick (caveatHolds r tid c) rest (failing c)
+caveat-first : (r : Request) (tid : List ℕ) (c : Caveat) (rest : ℕ) → soFar (caveatAnswer r tid c) rest ≡ pick (caveatHolds r tid c) rest (numberOf (failing c))
 unfolding soFar caveatAnswer
 caveat-first r tid c rest = by (caveatHolds r tid c)
   where
-    by : (b : Bool) → pick (eqb (pick b 0 (failing c)) 0) rest (pick b 0 (failing c)) ≡ pick b rest (failing c)
+    by : (b : Bool) → pick (eqb (pick b 0 (numberOf (failing c))) 0) rest (pick b 0 (numberOf (failing c))) ≡ pick b rest (numberOf (failing c))
     by true = refl
     by false = rw (failing-some c)
 

@@ -1,9 +1,7 @@
 -- Of a canonical parent, narrow's checks where the parts lie are checks on its tree.
-use mathlib.Core.Path.{_≡_, refl, sym, ap, subst, _∙_}
-use mathlib.Core.Bool.{Bool, true, false}
+use mathlib.Core.Path.{_≡_, refl, ap, _∙_}
 use mathlib.Core.List.{List, [], _∷_, _++_, append-assoc}
-use Prim.Native.Nat.{ℕ, _+_, _≤_}
-use native.Mathlib.Omega.{arith}
+use Prim.Native.Nat.{ℕ, _+_}
 use borrow.Author.Tests.{le-ltb, le-leb}
 use lib.Dec.{eqb, leb}
 use lib.ListN.{length, drop}
@@ -28,7 +26,7 @@ use Rattle.tables.specs.Tables.{Row, encodeTable, GoodTable, hasRow}
 use Rattle.tables.proofs.TableLaws.{table-written, find-finds, key-of-row}
 use Rattle.walking.specs.Walking.{afterCaveat}
 use Rattle.judging.proofs.Found.{placed}
-use Rattle.handing.specs.Handing.{Handed, refused, handed}
+use Rattle.handing.specs.Handing.{Handed, refused}
 use Rattle.growing.specs.Growing.{sized, grown, caveatThen}
 use Rattle.narrowing.specs.Narrowing.{linksOf, linkThen, keyThen, tokenThen, bytesThen, decodedThen, textThen, narrowOf}
 use Rattle.handing.proofs.Sizes.{short-text}

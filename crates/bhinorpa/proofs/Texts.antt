@@ -1,37 +1,31 @@
--- Texts and tokens: a canonical text is judged by its token's checks, and a text that reads well is canonical.
+-- Texts and tokens: every text has a first defect or is the canonical text of a token, and not both. What a defect is, on lists of bytes, is
+-- what the readings find.
 use mathlib.Core.Path.{_≡_, refl, sym, ap, subst, _∙_}
 use mathlib.Core.Bool.{Bool, true, false}
 use mathlib.Core.List.{List}
-use Prim.Native.Nat.{ℕ, _+_, _%_, _≤_, _<_}
+use Prim.Native.Nat.{ℕ, _≤_, _<_}
 use native.Mathlib.Omega.{arith}
-use borrow.Author.Tests.{ltb-true, ltb-false, lt-ltb, le-ltb, le-leb, eqb-true, eqb-false}
-use lib.Dec.{ltb, eqb}
+use borrow.Author.Tests.{ltb-true, ltb-false}
+use lib.Dec.{ltb}
 use lib.ListN.{length}
-use Rattle.basis.specs.Basis.{pick, IsBytes}
-use Rattle.text_writing.specs.Base64url.{base64url, tailLength, textLength}
-use Rattle.base64url.specs.Reading.{byteLength, judgedOf, bytesOf, decodedOf}
+use Rattle.basis.specs.Basis.{IsBytes}
+use Rattle.text_writing.specs.Base64url.{base64url}
+use Rattle.base64url.specs.Reading.{byteLength, judgedOf, bytesOf}
 use Rattle.base64url.specs.declared.Judged.{Judged}
 use Rattle.base64url.specs.declared.Judged.the-variants.{Whole, Fault}
 use Rattle.base64url.proofs.Decoding.{sound}
-use Rattle.text_writing.proofs.Writings.{text-length}
 use Rattle.base64url.proofs.TextLaws.{bytes-text, judged-text, whole-text, whole-bytes, whole-length}
-use Rattle.token.specs.Tokens.{Token, encodeToken, GoodToken}
+use Rattle.token.specs.Tokens.{Token, encodeToken}
 use Rattle.token.specs.Reading.{tokenOf}
 use Rattle.token.specs.declared.TokenParts.{TokenParts}
 use Rattle.token.specs.declared.TokenParts.the-variants.{Of, Bad}
 use Rattle.token.proofs.TokenWritten.{token-written}
 use Rattle.token.proofs.TokenRead.{token-read}
 use Rattle.token.proofs.DefectKinds.{token-kind}
-use Rattle.tables.specs.Tables.{Row, encodeTable, GoodTable}
-use Rattle.requests.specs.Requests.{Request}
-use Rattle.rules.specs.declared.Asked.{Asked}
-use Rattle.rules.proofs.RuleLaws.{AskedOf}
-use Rattle.judging.specs.Verifying.{tokenThen, bytesThen, decodedThen, textThen}
-use Rattle.bhinorpa.specs.Allowed.{Canonical, firstFailing, checksOf}
-use Rattle.bhinorpa.specs.Verdicts.{TextVerdict, too-long, no-base64, unreadable, judged}
 use Rattle.handing.proofs.Sizes.{short-text}
-use Rattle.bhinorpa.proofs.Judged.{token-law}
-use Rattle.judging.proofs.Decoding.{too-long as long-is}
+use Rattle.bhinorpa.specs.Allowed.{Canonical}
+use Rattle.bhinorpa.specs.Verdicts.{TextDefect, too-long, no-base64, unreadable}
+use Rattle.bhinorpa.specs.Demands.{DefectNoToken}
 
 few-bytes : (l n : ℕ) → n ≡ byteLength l → l ≤ 5462 → n ≤ 4096
 few-bytes l n e h = omega arith
@@ -43,9 +37,8 @@ bytes-few text {n} e h = few-bytes (length text) n (sound text e .count) h
 pub record Tokened (text : List ℕ) : Type 0 where
   pub token : Token
   pub canonical : Canonical text token
-  pub whole : bytesOf text ≡ encodeToken token
 
-pub reads-canonical : (text : List ℕ) {n : ℕ} → judgedOf text ≡ Whole n → length text ≤ 5462
+reads-canonical : (text : List ℕ) {n : ℕ} → judgedOf text ≡ Whole n → length text ≤ 5462
     → {count from to scope scope-end tag kid kid-end tid tid-end : ℕ} → tokenOf (bytesOf text) ≡ Of count from to scope scope-end tag kid kid-end tid tid-end → Tokened text
 reads-canonical text {n} j h e =
     let b = whole-bytes text j in
@@ -54,60 +47,74 @@ reads-canonical text {n} j h e =
     record {
       token = t .tree;
       canonical = record { good = t .good; bytes = subst IsBytes (t .whole) b; short = l; written = sym (whole-text text j) ∙ ap base64url (t .whole) };
-      whole = t .whole;
     }
 
--- no token has a text whose bytes do not read
-not-canonical : (text s : List ℕ) → IsBytes s → text ≡ base64url s → {kind at : ℕ} → tokenOf s ≡ Bad kind at → (t : Token) → Canonical text t → ⊥
-not-canonical text s b e {kind} {at} f t c =
-    let same : s ≡ encodeToken t = sym (bytes-text s b) ∙ ap bytesOf (sym e ∙ c .written) ∙ bytes-text (encodeToken t) (c .bytes) in
-    let w = token-written t (c .good) s same in
-    apart (sym f ∙ w .answer)
+-- what the readings find of a text that is no token's
+pub data Unread (text : List ℕ) (n : ℕ) : Type 0 where
+  unread-long : 5462 < length text → n ≡ 5 → Unread text n
+  unread-fault : length text ≤ 5462 → (at : ℕ) → judgedOf text ≡ Fault at → n ≡ 3 → Unread text n
+  unread-bytes : length text ≤ 5462 → (k : ℕ) → judgedOf text ≡ Whole k → (at : ℕ) → tokenOf (bytesOf text) ≡ Bad n at → Unread text n
+
+no-fault : (text bytes : List ℕ) → IsBytes bytes → text ≡ base64url bytes → (at : ℕ) → judgedOf text ≡ Fault at → ⊥
+no-fault text bytes b e at j = apart (sym j ∙ ap judgedOf e ∙ judged-text bytes b)
   where
-    apart : {count from to scope scope-end tag kid kid-end tid tid-end : ℕ} → _≡_ {A = TokenParts} (Bad kind at) (Of count from to scope scope-end tag kid kid-end tid tid-end) → ⊥
+    apart : {k : ℕ} → _≡_ {A = Judged} (Fault at) (Whole k) → ⊥
+    apart x = let z : _≡_ {A = ℕ} 0 1 = cc in omega arith
+
+pub defect-unread : (text : List ℕ) (n : ℕ) → TextDefect text n → Unread text n
+defect-unread text n (too-long h e) = unread-long h e
+defect-unread text n (no-base64 l h e) = by (judgedOf text) refl
+  where
+    by : (j : Judged) → judgedOf text ≡ j → Unread text n
+    by (Fault at) j = unread-fault l at j e
+    by (Whole k) j = let z = h (bytesOf text) (whole-bytes text j) (sym (whole-text text j)) in elim z [ ]
+defect-unread text n (unreadable l bytes b e at f) =
+    unread-bytes l (length bytes) (ap judgedOf e ∙ judged-text bytes b) at (ap tokenOf (ap bytesOf e ∙ bytes-text bytes b) ∙ f)
+
+unread-defect : (text : List ℕ) (n : ℕ) → Unread text n → TextDefect text n
+unread-defect text n (unread-long h e) = too-long h e
+unread-defect text n (unread-fault l at j e) = no-base64 l (λ bytes b f. no-fault text bytes b f at j) e
+unread-defect text n (unread-bytes l k j at f) = unreadable l (bytesOf text) (whole-bytes text j) (sym (whole-text text j)) at f
+
+-- a defect's number is one of 3 to 6
+pub defect-few : (text : List ℕ) (n : ℕ) → TextDefect text n → (3 ≤ n) × (n ≤ 6)
+defect-few text n (too-long h e) = (omega (arith, e), omega (arith, e))
+defect-few text n (no-base64 l h e) = (omega (arith, e), omega (arith, e))
+defect-few text n (unreadable l bytes b e at f) = let k = token-kind bytes f in (omega (arith, k .0), omega (arith, k .1))
+
+pub defect-no-token : DefectNoToken
+defect-no-token text n d token c = by (defect-unread text n d)
+  where
+    bytes : List ℕ
+    bytes = encodeToken token
+
+    apart : {k at count from to scope scope-end tag kid kid-end tid tid-end : ℕ} → _≡_ {A = TokenParts} (Bad k at) (Of count from to scope scope-end tag kid kid-end tid tid-end) → ⊥
     apart q = let z : _≡_ {A = ℕ} 0 1 = cc in omega arith
 
-module _ (rows : List Row) (gr : GoodTable rows) (body : List ℕ) (r : Request) (q : Asked) (h : AskedOf body r q) (who : List ℕ) (ew : who ≡ r .tenant) where
-  pub canonical-law : (text : List ℕ) (t : Token) → Canonical text t → textThen (encodeTable rows) text body q who ≡ firstFailing (checksOf rows r t)
-  unfolding textThen decodedOf decodedThen
-  canonical-law text t c =
-      let b = encodeToken t in
-      let l = short-text b (c .short) in
-      rw (c .written, le-ltb 5462 (length (base64url b)) l, judged-text b (c .bytes), le-leb (length b) 4096 (c .short), bytes-text b (c .bytes))
-      (token-law rows gr body r q h t (c .good) b refl who ew)
+    by : Unread text n → ⊥
+    by (unread-long h e) = omega (arith, h, subst (λ (x : List ℕ). length x ≤ 5462) (sym (c .written)) (short-text bytes (c .short)))
+    by (unread-fault l at j e) = no-fault text bytes (c .bytes) (c .written) at j
+    by (unread-bytes l k j at f) = apart (sym f ∙ ap tokenOf (ap bytesOf (c .written) ∙ bytes-text bytes (c .bytes)) ∙ token-written token (c .good) bytes refl .answer)
 
-  -- what a text that has no token answers
-  module _ (text : List ℕ) (l : length text ≤ 5462) where
-    fault-is : {at : ℕ} → judgedOf text ≡ Fault at → textThen (encodeTable rows) text body q who ≡ 3
-    unfolding textThen decodedOf decodedThen
-    fault-is j = rw (le-ltb 5462 (length text) l, j)
+-- every text has a first defect, or is that of a token
+pub data TextIs (text : List ℕ) : Type 0 where
+  no-token : (n : ℕ) → TextDefect text n → TextIs text
+  one-token : (token : Token) → Canonical text token → TextIs text
 
-    defect-is : {n kind at : ℕ} → judgedOf text ≡ Whole n → tokenOf (bytesOf text) ≡ Bad kind at → textThen (encodeTable rows) text body q who ≡ kind
-    unfolding textThen decodedOf decodedThen bytesThen tokenThen
-    defect-is {n} j e = rw (le-ltb 5462 (length text) l, j, le-leb n 4096 (bytes-few text j l), e)
+pub text-is : (text : List ℕ) → TextIs text
+text-is text = by-length (ltb 5462 (length text)) refl
+  where
+    defect : (n : ℕ) → Unread text n → TextIs text
+    defect n u = no-token n (unread-defect text n u)
 
-    no-bytes : {at : ℕ} → judgedOf text ≡ Fault at → (s : List ℕ) → IsBytes s → text ≡ base64url s → ⊥
-    no-bytes {at} j s b e = apart (sym j ∙ ap judgedOf e ∙ judged-text s b)
-      where
-        apart : {n : ℕ} → _≡_ {A = Judged} (Fault at) (Whole n) → ⊥
-        apart x = let z : _≡_ {A = ℕ} 0 1 = cc in omega arith
+    by-token : length text ≤ 5462 → (k : ℕ) → judgedOf text ≡ Whole k → (p : TokenParts) → tokenOf (bytesOf text) ≡ p → TextIs text
+    by-token l k j (Bad n at) p = defect n (unread-bytes l k j at p)
+    by-token l k j (Of a b c d e f g h i m) p = let t = reads-canonical text j l p in one-token (t .token) (t .canonical)
 
-    by-token : (n : ℕ) → judgedOf text ≡ Whole n → (p : TokenParts) → tokenOf (bytesOf text) ≡ p → TextVerdict rows r text (textThen (encodeTable rows) text body q who)
-    by-token n j (Of a b c d e f g i k m) p = let t = reads-canonical text j l p in judged (t .token) (t .canonical) (canonical-law text (t .token) (t .canonical))
-    by-token n j (Bad kind at) p =
-        let e = defect-is j p in
-        let w = sym (whole-text text j) in
-        unreadable l (bytesOf text) w at (p ∙ ap (λ (k : ℕ). Bad k at) (sym e)) (subst (λ (k : ℕ). (4 ≤ k) × (k ≤ 6)) (sym e) (token-kind (bytesOf text) p))
-        (not-canonical text (bytesOf text) (whole-bytes text j) w p)
+    by-judged : length text ≤ 5462 → (j : Judged) → judgedOf text ≡ j → TextIs text
+    by-judged l (Fault at) j = defect 3 (unread-fault l at j refl)
+    by-judged l (Whole k) j = by-token l k j (tokenOf (bytesOf text)) refl
 
-    by-judged : (j : Judged) → judgedOf text ≡ j → TextVerdict rows r text (textThen (encodeTable rows) text body q who)
-    by-judged (Fault at) j = no-base64 l (no-bytes j) (fault-is j)
-    by-judged (Whole n) j = by-token n j (tokenOf (bytesOf text)) refl
-
-  -- the verdict on any text
-  pub text-verdict : (text : List ℕ) → TextVerdict rows r text (textThen (encodeTable rows) text body q who)
-  text-verdict text = by (ltb 5462 (length text)) refl
-    where
-      by : (b : Bool) → ltb 5462 (length text) ≡ b → TextVerdict rows r text (textThen (encodeTable rows) text body q who)
-      by true p = too-long (ltb-true 5462 (length text) p) (sym (long-is (encodeTable rows) text body q who (ltb-true 5462 (length text) p)))
-      by false p = by-judged text (ltb-false 5462 (length text) p) (judgedOf text) refl
+    by-length : (b : Bool) → ltb 5462 (length text) ≡ b → TextIs text
+    by-length true p = defect 5 (unread-long (ltb-true 5462 (length text) p) refl)
+    by-length false p = by-judged (ltb-false 5462 (length text) p) (judgedOf text) refl

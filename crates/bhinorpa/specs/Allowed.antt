@@ -8,88 +8,107 @@ use lib.Dec.{leb}
 use lib.ListN.{length}
 use Rattle.basis.specs.Basis.{pick, IsBytes}
 use Rattle.basis.specs.Same.{sameOf}
+use Rattle.answers.specs.Answers.{numberOf}
+use Rattle.answers.specs.declared.Answer.{Answer}
+use Rattle.answers.specs.declared.Answer.the-variants.{Allow, KidUnknown, MacMismatch, TenantMismatch, CaveatMethod, CaveatPath, CaveatBytes}
 use Rattle.text_writing.specs.Base64url.{base64url}
 use Rattle.chain.specs.Chain.{tagOf}
 use Rattle.scope.specs.Scopes.{Scope, encodeScope}
 use Rattle.caveat.specs.Caveats.{Caveat, encodeCaveat}
 use Rattle.token.specs.Tokens.{Token, encodeToken, GoodToken}
-use Rattle.tables.specs.Tables.{Row, hasRow, keyIn}
-use Rattle.requests.specs.Requests.{Request}
+use Rattle.tables.specs.Tables.{Row, encodeTable, GoodTable, hasRow, keyIn}
+use Rattle.requests.specs.Requests.{Request, encodeRequest, GoodRequest}
 use Rattle.rules.specs.Holding.{memberOf, ifThere, failing, caveatHolds}
 use Rattle.comparing.specs.Fitting.{fitsOf}
 
+-- the rows that a table's bytes are, and what a request's body asks
+pub record TableOf (table : List ℕ) (rows : List Row) : Type 0 where
+  pub good : GoodTable rows
+  pub written : table ≡ encodeTable rows
+
+pub record RequestOf (request : List ℕ) (asked : Request) : Type 0 where
+  pub good : GoodRequest asked
+  pub written : request ≡ encodeRequest asked
+
 -- the one text of a token within limits. 01: "Text is Base64URL without padding ... At most 4,096 decoded bytes"
-pub record Canonical (text : List ℕ) (t : Token) : Type 0 where
-  pub good : GoodToken t
-  pub bytes : IsBytes (encodeToken t)
-  pub short : length (encodeToken t) ≤ 4096
-  pub written : text ≡ base64url (encodeToken t)
+abbrev pub textOf : Token → List ℕ
+textOf token = base64url (encodeToken token)
+
+pub record Canonical (text : List ℕ) (token : Token) : Type 0 where
+  pub good : GoodToken token
+  pub bytes : IsBytes (encodeToken token)
+  pub short : length (encodeToken token) ≤ 4096
+  pub written : text ≡ textOf token
 
 unfoldable pub caveatBytes : List Caveat → List (List ℕ)
 caveatBytes [] = []
-caveatBytes (c ∷ cs) = encodeCaveat c ∷ caveatBytes cs
+caveatBytes (caveat ∷ rest) = encodeCaveat caveat ∷ caveatBytes rest
 
 -- the tag that the chain gives under a key
 abbrev pub chainTag : List ℕ → Token → List ℕ
-chainTag key t = tagOf key (t .tid) (t .kid) (encodeScope (t .scope)) (caveatBytes (t .caveats))
+chainTag key token = tagOf key (token .tid) (token .kid) (encodeScope (token .scope)) (caveatBytes (token .caveats))
 
 -- the key of the row with the token's ids
 abbrev pub keyFor : List Row → Token → List ℕ
-keyFor rows t = keyIn rows (t .tid) (t .kid)
+keyFor rows token = keyIn rows (token .tid) (token .kid)
 
 -- "the request's method is in methods; its path starts with prefix, if there is one; body size is at most max_bytes, if there is one"
 abbrev pub methodHolds : Request → Scope → Bool
-methodHolds r x = memberOf (r .method) (x .methods)
+methodHolds asked scope = memberOf (asked .method) (scope .methods)
 
 abbrev pub pathHolds : Request → Scope → Bool
-pathHolds r x = ifThere (λ p. fitsOf p (r .path)) (x .prefix)
+pathHolds asked scope = ifThere (λ prefix. fitsOf prefix (asked .path)) (scope .prefix)
 
 abbrev pub bytesHold : Request → Scope → Bool
-bytesHold r x = ifThere (leb (r .size)) (x .max-bytes)
+bytesHold asked scope = ifThere (leb (asked .size)) (scope .max-bytes)
 
--- a check, and the number of the answer where it fails
+-- a check, and the answer where it fails
 pub record Check : Type 0 where
-  pub number : ℕ
+  pub answer : Answer
   pub holds : Bool
 
-abbrev pub check : ℕ → Bool → Check
-check number holds = record { number = number; holds = holds }
+abbrev pub check : Answer → Bool → Check
+check answer holds = record { answer = answer; holds = holds }
 
 unfoldable pub firstFailing : List Check → ℕ
-firstFailing [] = 0
-firstFailing (c ∷ cs) = pick (c .holds) (firstFailing cs) (c .number)
+firstFailing [] = numberOf Allow
+firstFailing (first ∷ rest) = pick (first .holds) (firstFailing rest) (numberOf (first .answer))
 
 -- "caveats in token order"
 unfoldable pub caveatChecks : Request → List ℕ → List Caveat → List Check
-caveatChecks r tid [] = []
-caveatChecks r tid (c ∷ cs) = check (failing c) (caveatHolds r tid c) ∷ caveatChecks r tid cs
+caveatChecks asked tid [] = []
+caveatChecks asked tid (caveat ∷ rest) = check (failing caveat) (caveatHolds asked tid caveat) ∷ caveatChecks asked tid rest
 
 -- 01, of a token that was read: "7, 8, 9, scope method, path, bytes (10 to 12), caveats in token order"
 unfoldable pub scopeChecks : Request → Scope → List Check → List Check
-scopeChecks r x rest = check 10 (methodHolds r x) ∷ check 11 (pathHolds r x) ∷ check 12 (bytesHold r x) ∷ rest
+scopeChecks asked scope rest =
+    check CaveatMethod (methodHolds asked scope)
+    ∷ check CaveatPath (pathHolds asked scope)
+    ∷ check CaveatBytes (bytesHold asked scope)
+    ∷ rest
 
 unfoldable pub checksOf : List Row → Request → Token → List Check
-checksOf rows r t =
-    check 7 (hasRow rows (t .tid) (t .kid))
-    ∷ check 8 (sameOf (chainTag (keyFor rows t) t) (t .tag))
-    ∷ check 9 (sameOf (t .tid) (r .tenant))
-    ∷ scopeChecks r (t .scope) (caveatChecks r (t .tid) (t .caveats))
+checksOf rows asked token =
+    check KidUnknown (hasRow rows (token .tid) (token .kid))
+    ∷ check MacMismatch (sameOf (chainTag (keyFor rows token) token) (token .tag))
+    ∷ check TenantMismatch (sameOf (token .tid) (asked .tenant))
+    ∷ scopeChecks asked (token .scope) (caveatChecks asked (token .tid) (token .caveats))
 
 unfoldable pub EachHolds : Request → List ℕ → List Caveat → Type 0
-EachHolds r tid [] = Unit {0}
-EachHolds r tid (c ∷ cs) = (caveatHolds r tid c ≡ true) × EachHolds r tid cs
+EachHolds asked tid [] = Unit {0}
+EachHolds asked tid (caveat ∷ rest) = (caveatHolds asked tid caveat ≡ true) × EachHolds asked tid rest
 
 -- its key is known, the chain gives its tag, and tenant, scope and every caveat hold
-pub record AllHold (rows : List Row) (r : Request) (t : Token) : Type 0 where
-  pub known : hasRow rows (t .tid) (t .kid) ≡ true
-  pub tagged : chainTag (keyFor rows t) t ≡ t .tag
-  pub own-tenant : t .tid ≡ r .tenant
-  pub method-holds : methodHolds r (t .scope) ≡ true
-  pub path-holds : pathHolds r (t .scope) ≡ true
-  pub bytes-hold : bytesHold r (t .scope) ≡ true
-  pub caveats-hold : EachHolds r (t .tid) (t .caveats)
+pub record AllHold (rows : List Row) (asked : Request) (token : Token) : Type 0 where
+  pub known : hasRow rows (token .tid) (token .kid) ≡ true
+  pub tagged : chainTag (keyFor rows token) token ≡ token .tag
+  pub own-tenant : token .tid ≡ asked .tenant
+  pub method-holds : methodHolds asked (token .scope) ≡ true
+  pub path-holds : pathHolds asked (token .scope) ≡ true
+  pub bytes-hold : bytesHold asked (token .scope) ≡ true
+  pub caveats-hold : EachHolds asked (token .tid) (token .caveats)
 
-pub record Allowed (rows : List Row) (r : Request) (text : List ℕ) : Type 0 where
+pub record Allowed (rows : List Row) (asked : Request) (text : List ℕ) : Type 0 where
   pub token : Token
   pub canonical : Canonical text token
-  pub all-hold : AllHold rows r token
+  pub all-hold : AllHold rows asked token

@@ -1,3 +1,4 @@
 pub mod Allowed
-pub mod Verdicts
 pub mod Handouts
+pub mod Verdicts
+pub mod Demands

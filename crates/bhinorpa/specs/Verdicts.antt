@@ -1,38 +1,126 @@
--- Which check verify names, in document 01's order: "Verify: 1, 2, text over 5,462 characters (5), 3, reading (4 to 6), 7, 8, 9, scope
--- method, path, bytes (10 to 12), caveats in token order." Each case says that all checks before it held.
+-- Which check each entry point names, in document 01's order ("Numbers and names"). Each case says that all checks before it held; of
+-- issue and narrow it also says what was returned and what the room holds.
 use mathlib.Core.Path.{_≡_}
-use mathlib.Core.List.{List}
-use Prim.Native.Nat.{ℕ, _≤_, _<_}
+use mathlib.Core.Bool.{Bool, true, false}
+use mathlib.Core.List.{List, [], _∷_, _++_}
+use Prim.Native.Nat.{ℕ, _+_, _≤_, _<_}
+use lib.Dec.{eqb}
 use lib.ListN.{length}
-use Rattle.basis.specs.Basis.{IsBytes}
+use Rattle.basis.specs.Basis.{pick, over, IsBytes}
+use Rattle.answers.specs.Answers.{numberOf}
+use Rattle.answers.specs.declared.Answer.{Answer}
+use Rattle.answers.specs.declared.Answer.the-variants.{Allow, TableBad, CtxBad, ParseB64, ParseCbor, ParseBounds, SchemaUnknownField, KidUnknown, MacMismatch, TenantMismatch}
+use Rattle.answers.specs.declared.Answer.the-variants.{CaveatMethod, CaveatPath, CaveatBytes, CaveatExp, CaveatNbf, CaveatAud, CaveatIp, CaveatRate, CaveatTenant, CaveatAmnesia, CaveatPolicyDigest, CaveatCustomUnknown}
+use Rattle.answers.specs.declared.Answer.the-variants.{CavCbor, CavBounds, CavUnknown, CavFull, SizeFull, OutShort}
 use Rattle.text_writing.specs.Base64url.{base64url}
-use Rattle.token.specs.Tokens.{Token}
+use Rattle.scope.specs.Scopes.{Scope, encodeScope, GoodScope}
+use Rattle.scope.specs.Reading.{scopeOf}
+use Rattle.scope.specs.declared.ScopeParts.the-variants.{Bad as NoScope}
+use Rattle.caveat.specs.Caveats.{Caveat, encodeCaveat, GoodCaveat}
+use Rattle.caveat.specs.Reading.{caveatOf}
+use Rattle.caveat_values.specs.declared.CaveatParts.the-variants.{Bad as NoCaveat}
+use Rattle.token.specs.Tokens.{Token, encodeToken}
 use Rattle.token.specs.Reading.{tokenOf}
-use Rattle.token.specs.declared.TokenParts.the-variants.{Bad}
-use Rattle.tables.specs.Tables.{Row, encodeTable, GoodTable}
-use Rattle.requests.specs.Requests.{Request, encodeRequest, GoodRequest}
-use Rattle.bhinorpa.specs.Allowed.{Canonical, firstFailing, checksOf}
+use Rattle.token.specs.declared.TokenParts.the-variants.{Bad as NoToken}
+use Rattle.tables.specs.Tables.{Row, hasRow}
+use Rattle.requests.specs.Requests.{Request}
+use Rattle.handing.specs.declared.Outcome.{Outcome}
+use Rattle.bhinorpa.specs.Allowed.{TableOf, RequestOf, textOf, Canonical, chainTag, keyFor, firstFailing, checksOf}
+use Rattle.bhinorpa.specs.Handouts.{ScopeOf, CaveatOf, Grant, Parent, freshToken, childToken}
 
-pub record TableOf (table : List ℕ) (rows : List Row) : Type 0 where
-  pub good : GoodTable rows
-  pub written : table ≡ encodeTable rows
+abbrev pub NoTable : List ℕ → Type 0
+NoTable table = (rows : List Row) → TableOf table rows → ⊥
 
-pub record RequestOf (request : List ℕ) (r : Request) : Type 0 where
-  pub good : GoodRequest r
-  pub written : request ≡ encodeRequest r
+abbrev pub NoRequest : List ℕ → Type 0
+NoRequest request = (asked : Request) → RequestOf request asked → ⊥
 
-pub data TextVerdict (rows : List Row) (r : Request) (text : List ℕ) (n : ℕ) : Type 0 where
+-- the first defect of a text that is no token's
+pub data TextDefect (text : List ℕ) (n : ℕ) : Type 0 where
   -- "text over 5,462 characters (5)"
-  too-long : 5462 < length text → n ≡ 5 → TextVerdict rows r text n
+  too-long : 5462 < length text → n ≡ numberOf ParseBounds → TextDefect text n
   -- 3: no bytes have this text
-  no-base64 : length text ≤ 5462 → ((s : List ℕ) → IsBytes s → text ≡ base64url s → ⊥) → n ≡ 3 → TextVerdict rows r text n
-  -- "reading (4 to 6)": the number of the first defect; no token has this text
-  unreadable : length text ≤ 5462 → (s : List ℕ) → text ≡ base64url s → (at : ℕ) → tokenOf s ≡ Bad n at → (4 ≤ n) × (n ≤ 6) → ((t : Token) → Canonical text t → ⊥)
-      → TextVerdict rows r text n
-  -- 7 to 21, or 0
-  judged : (t : Token) → Canonical text t → n ≡ firstFailing (checksOf rows r t) → TextVerdict rows r text n
+  no-base64 : length text ≤ 5462 → ((bytes : List ℕ) → IsBytes bytes → text ≡ base64url bytes → ⊥) → n ≡ numberOf ParseB64 → TextDefect text n
+  -- "reading (4 to 6)": the first defect of the bytes that have this text
+  unreadable : length text ≤ 5462 → (bytes : List ℕ) → IsBytes bytes → text ≡ base64url bytes → (at : ℕ) → tokenOf bytes ≡ NoToken n at → TextDefect text n
 
+-- the first defect of bytes that are not one scope, or not one caveat: of its reading, or that bytes are left over (4)
+pub data ScopeDefect (bytes : List ℕ) (n : ℕ) : Type 0 where
+  scope-unreadable : (at : ℕ) → scopeOf bytes 0 ≡ NoScope n at → ScopeDefect bytes n
+  scope-left-over : (scope : Scope) → GoodScope scope → (rest : List ℕ) → bytes ≡ encodeScope scope ++ rest → (rest ≡ [] → ⊥) → n ≡ numberOf ParseCbor → ScopeDefect bytes n
+
+pub data CaveatDefect (bytes : List ℕ) (n : ℕ) : Type 0 where
+  caveat-unreadable : (at : ℕ) → caveatOf bytes ≡ NoCaveat n at → CaveatDefect bytes n
+  caveat-left-over : (caveat : Caveat) → GoodCaveat caveat → (rest : List ℕ) → bytes ≡ encodeCaveat caveat ++ rest → (rest ≡ [] → ⊥) → n ≡ numberOf ParseCbor → CaveatDefect bytes n
+
+-- "Verify: 1, 2, text over 5,462 characters (5), 3, reading (4 to 6), 7, 8, 9, scope method, path, bytes (10 to 12), caveats in token order."
 pub data Verdict (table request text : List ℕ) (n : ℕ) : Type 0 where
-  table-bad : ((rows : List Row) → TableOf table rows → ⊥) → n ≡ 1 → Verdict table request text n
-  ctx-bad : (rows : List Row) → TableOf table rows → ((r : Request) → RequestOf request r → ⊥) → n ≡ 2 → Verdict table request text n
-  of-text : (rows : List Row) → TableOf table rows → (r : Request) → RequestOf request r → TextVerdict rows r text n → Verdict table request text n
+  table-bad : NoTable table → n ≡ numberOf TableBad → Verdict table request text n
+  ctx-bad : (rows : List Row) → TableOf table rows → NoRequest request → n ≡ numberOf CtxBad → Verdict table request text n
+  -- 5, 3, 4 to 6
+  no-token : (rows : List Row) → TableOf table rows → (asked : Request) → RequestOf request asked → TextDefect text n → Verdict table request text n
+  -- 7 to 21, or 0
+  judged : (rows : List Row) → TableOf table rows → (asked : Request) → RequestOf request asked → (token : Token) → Canonical text token
+      → n ≡ firstFailing (checksOf rows asked token) → Verdict table request text n
+
+-- "Every refusal by these three returns 0 bytes and writes nothing."
+pub record Refuses (n : ℕ) (entry : List ℕ) (outcome : Outcome) (exit : List ℕ) : Type 0 where
+  pub answer : outcome .answer ≡ n
+  pub count : outcome .length ≡ 0
+  pub content : exit ≡ entry
+
+-- "Done returns the text's length; the rest of the room stays."
+pub record Hands (text entry : List ℕ) (outcome : Outcome) (exit : List ℕ) : Type 0 where
+  pub answer : outcome .answer ≡ numberOf Allow
+  pub count : outcome .length ≡ length text
+  pub content : exit ≡ over text entry
+
+-- 36, the last check: the text in a room that holds it, or a refusal
+pub data Handout (text entry : List ℕ) (outcome : Outcome) (exit : List ℕ) : Type 0 where
+  out-short : length entry < length text → Refuses (numberOf OutShort) entry outcome exit → Handout text entry outcome exit
+  done : length text ≤ length entry → Hands text entry outcome exit → Handout text entry outcome exit
+
+-- "Issue: 1, the scope's reading (4 to 6), 7 (also for a tid or kid of wrong form), 36."
+pub data IssueVerdict (table tid kid bytes entry : List ℕ) (outcome : Outcome) (exit : List ℕ) : Type 0 where
+  issue-table-bad : NoTable table → Refuses (numberOf TableBad) entry outcome exit → IssueVerdict table tid kid bytes entry outcome exit
+  issue-scope-bad : (rows : List Row) → TableOf table rows → (n : ℕ) → ScopeDefect bytes n → Refuses n entry outcome exit → IssueVerdict table tid kid bytes entry outcome exit
+  issue-kid-unknown : (rows : List Row) → TableOf table rows → (scope : Scope) → ScopeOf bytes scope → hasRow rows tid kid ≡ false
+      → Refuses (numberOf KidUnknown) entry outcome exit → IssueVerdict table tid kid bytes entry outcome exit
+  issue-grants : (rows : List Row) (scope : Scope) → Grant table tid kid bytes rows scope → Handout (textOf (freshToken rows scope tid kid)) entry outcome exit
+      → IssueVerdict table tid kid bytes entry outcome exit
+
+-- "Narrow: 1, text length, 3, reading, 7, 8, the caveat's reading as 31, 32, 33 for 4, 5, 6, then 34, 35, 36."
+pub data NarrowVerdict (table text bytes entry : List ℕ) (outcome : Outcome) (exit : List ℕ) : Type 0 where
+  narrow-table-bad : NoTable table → Refuses (numberOf TableBad) entry outcome exit → NarrowVerdict table text bytes entry outcome exit
+  narrow-no-token : (rows : List Row) → TableOf table rows → (n : ℕ) → TextDefect text n → Refuses n entry outcome exit → NarrowVerdict table text bytes entry outcome exit
+  narrow-kid-unknown : (rows : List Row) → TableOf table rows → (token : Token) → Canonical text token → hasRow rows (token .tid) (token .kid) ≡ false
+      → Refuses (numberOf KidUnknown) entry outcome exit → NarrowVerdict table text bytes entry outcome exit
+  narrow-mac : (rows : List Row) → TableOf table rows → (token : Token) → Canonical text token → hasRow rows (token .tid) (token .kid) ≡ true
+      → (chainTag (keyFor rows token) token ≡ token .tag → ⊥) → Refuses (numberOf MacMismatch) entry outcome exit → NarrowVerdict table text bytes entry outcome exit
+  narrow-caveat-bad : (rows : List Row) (token : Token) → Parent table text rows token → (n : ℕ) → CaveatDefect bytes n → Refuses (n + 27) entry outcome exit
+      → NarrowVerdict table text bytes entry outcome exit
+  narrow-full : (rows : List Row) (token : Token) → Parent table text rows token → (added : Caveat) → CaveatOf bytes added → length (token .caveats) ≡ 64
+      → Refuses (numberOf CavFull) entry outcome exit → NarrowVerdict table text bytes entry outcome exit
+  narrow-size-full : (rows : List Row) (token : Token) → Parent table text rows token → (added : Caveat) → CaveatOf bytes added → length (token .caveats) < 64
+      → 4096 < length (encodeToken (childToken rows token added)) → Refuses (numberOf SizeFull) entry outcome exit → NarrowVerdict table text bytes entry outcome exit
+  narrow-hands : (rows : List Row) (token : Token) → Parent table text rows token → (added : Caveat) → CaveatOf bytes added → length (token .caveats) < 64
+      → length (encodeToken (childToken rows token added)) ≤ 4096 → Handout (textOf (childToken rows token added)) entry outcome exit
+      → NarrowVerdict table text bytes entry outcome exit
+
+-- the closed list of each entry point's answers
+unfoldable pub oneOf : List Answer → ℕ → Bool
+oneOf [] n = false
+oneOf (answer ∷ rest) n = pick (eqb n (numberOf answer)) true (oneOf rest n)
+
+-- 0 to 21
+abbrev pub verifyAnswers : List Answer
+verifyAnswers =
+    Allow ∷ TableBad ∷ CtxBad ∷ ParseB64 ∷ ParseCbor ∷ ParseBounds ∷ SchemaUnknownField ∷ KidUnknown ∷ MacMismatch ∷ TenantMismatch ∷ CaveatMethod ∷ CaveatPath ∷ CaveatBytes ∷ CaveatExp ∷ CaveatNbf ∷ CaveatAud ∷ CaveatIp ∷ CaveatRate ∷ CaveatTenant ∷ CaveatAmnesia ∷ CaveatPolicyDigest ∷ CaveatCustomUnknown ∷ []
+
+-- 0, 1, 4 to 7, 36
+abbrev pub issueAnswers : List Answer
+issueAnswers = Allow ∷ TableBad ∷ ParseCbor ∷ ParseBounds ∷ SchemaUnknownField ∷ KidUnknown ∷ OutShort ∷ []
+
+-- 0, 1, 3 to 8, 31 to 36
+abbrev pub narrowAnswers : List Answer
+narrowAnswers =
+    Allow ∷ TableBad ∷ ParseB64 ∷ ParseCbor ∷ ParseBounds ∷ SchemaUnknownField ∷ KidUnknown ∷ MacMismatch ∷ CavCbor ∷ CavBounds ∷ CavUnknown ∷ CavFull ∷ SizeFull ∷ OutShort ∷ []

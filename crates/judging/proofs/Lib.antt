@@ -1,3 +1,4 @@
 pub mod Found
 pub mod Decoding
 pub mod OneAnswer
+pub mod Numbers

@@ -1,16 +1,20 @@
--- What the rules' words say: "starts with", "in the list", and sums that cannot wrap.
-use mathlib.Core.Path.{_≡_, refl, sym, ap₂}
+-- What the rules' words say: "starts with", "in the list", "first n bits agree", and sums that cannot wrap.
+use mathlib.Core.Path.{_≡_, refl, sym, ap, ap₂, _∙_}
 use mathlib.Core.Bool.{Bool, true, false}
 use mathlib.Core.List.{List, [], _∷_, _++_}
-use Prim.Native.Nat.{ℕ, _+_, _^_, _<_}
+use mathlib.Core.Option.{Option, some, none}
+use Prim.Native.Nat.{ℕ, zero, suc, _+_, _^_, _<_}
 use native.Mathlib.Omega.{arith}
 use borrow.Author.Tests.{eqb-true, eq-eqb, le-leb}
 use lib.Dec.{eqb}
 use lib.ListN.{length, drop}
-use Rattle.basis.specs.Basis.{pick}
-use Rattle.caveat.specs.Caveats.{exp, method}
+use Rattle.basis.specs.Basis.{pick, IsBytes}
+use Rattle.cidr.specs.Prefixes.{Prefix, Good}
+use Rattle.cidr.specs.Bits.{Agree, agreeOf}
+use Rattle.cidr.proofs.BitLaws.{agree-bits, bits-agree}
+use Rattle.caveat.specs.Caveats.{exp, method, ip-cidr}
 use Rattle.requests.specs.Requests.{Request}
-use Rattle.rules.specs.Holding.{memberOf, caveatHolds}
+use Rattle.rules.specs.Holding.{memberOf, onlyThere, addressBytes, caveatHolds}
 use Rattle.comparing.specs.Fitting.{fitsOf}
 
 -- a prefix fits a path exactly when the path is the prefix and something behind it
@@ -38,3 +42,25 @@ empty-holds-nothing r tid = refl
 pub far-expiry-holds : (r : Request) (tid : List ℕ) → r .now < 2 ^ 64 → caveatHolds r tid (exp 0xffffffffffffffff) ≡ true
 unfolding caveatHolds
 far-expiry-holds r tid h = le-leb (r .now) (0xffffffffffffffff + r .skew) (omega arith)
+
+-- 01: "ip_cidr, a present peer's first n bits agree"
+address-bytes : (prefix : Prefix) → Good prefix → IsBytes (addressBytes prefix)
+address-bytes prefix g zero = g .a-byte
+address-bytes prefix g (suc zero) = g .b-byte
+address-bytes prefix g (suc (suc zero)) = g .c-byte
+address-bytes prefix g (suc (suc (suc zero))) = g .d-byte
+address-bytes prefix g (suc (suc (suc (suc i)))) = omega arith
+
+pub first-bits : (asked : Request) (tid : List ℕ) (prefix : Prefix) → Good prefix → (peer : List ℕ) → IsBytes peer → asked .peer ≡ some peer
+    → (caveatHolds asked tid (ip-cidr prefix) ≡ true → Agree (addressBytes prefix) peer (prefix .size))
+    × (Agree (addressBytes prefix) peer (prefix .size) → caveatHolds asked tid (ip-cidr prefix) ≡ true)
+unfolding caveatHolds
+first-bits asked tid prefix g peer b e =
+    let held = ap (onlyThere (λ x. agreeOf (addressBytes prefix) x (prefix .size))) e in (
+      λ h. agree-bits (addressBytes prefix) peer (prefix .size) (sym held ∙ h),
+      λ a. held ∙ bits-agree (addressBytes prefix) peer (prefix .size) (address-bytes prefix g) b a,
+    )
+
+pub no-peer : (asked : Request) (tid : List ℕ) (prefix : Prefix) → asked .peer ≡ none → caveatHolds asked tid (ip-cidr prefix) ≡ false
+unfolding caveatHolds
+no-peer asked tid prefix e = ap (onlyThere (λ x. agreeOf (addressBytes prefix) x (prefix .size))) e

@@ -9,6 +9,7 @@ use lib.Dec.{leb}
 use lib.ListN.{length, drop}
 use Rattle.basis.specs.Basis.{between}
 use Rattle.basis.specs.Same.{sameOf}
+use Rattle.answers.specs.Answers.{numberOf}
 use Rattle.basis.proofs.Parts.{past}
 use Rattle.cbor.specs.declared.Class.the-variants.{Upper}
 use Rattle.keys.specs.Maps.{text, texts}
@@ -148,7 +149,7 @@ module _ (s body tid : List ℕ) (r : Request) (q : Asked) (h : AskedOf body r q
   held-law c part g (digest-is d from to e) = rw e (digest-law body d (r .digest) (q .digest) (h .digest-held))
   held-law c part g (custom-is ns name value a b x d e f i j k) = refl
 
-  failing-law : (c : Caveat) (part : Part) → CaveatIs s c part → failingOf part ≡ failing c
+  failing-law : (c : Caveat) (part : Part) → CaveatIs s c part → failingOf part ≡ numberOf (failing c)
   unfolding failingOf failing
   failing-law c part (exp-is n) = refl
   failing-law c part (nbf-is n) = refl

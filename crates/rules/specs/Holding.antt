@@ -7,6 +7,9 @@ use Prim.Native.Nat.{ℕ, _+_}
 use lib.Dec.{leb}
 use Rattle.basis.specs.Basis.{pick}
 use Rattle.basis.specs.Same.{sameOf}
+use Rattle.answers.specs.Answers.{numberOf}
+use Rattle.answers.specs.declared.Answer.{Answer}
+use Rattle.answers.specs.declared.Answer.the-variants.{Allow, CaveatMethod, CaveatPath, CaveatBytes, CaveatExp, CaveatNbf, CaveatAud, CaveatIp, CaveatRate, CaveatTenant, CaveatAmnesia, CaveatPolicyDigest, CaveatCustomUnknown}
 use Rattle.cidr.specs.Prefixes.{Prefix}
 use Rattle.cidr.specs.Bits.{agreeOf}
 use Rattle.requests.specs.Requests.{Request, PerSecond}
@@ -36,20 +39,20 @@ addressBytes p = p .a ∷ p .b ∷ p .c ∷ p .d ∷ []
 abbrev pub within : ℕ → ℕ → PerSecond → Bool
 within per-s burst r = pick (leb (r .per-s) per-s) (leb (r .burst) burst) false
 
--- the number of the answer where a caveat fails
-unfoldable pub failing : Caveat → ℕ
-failing (exp n) = 13
-failing (nbf n) = 14
-failing (aud a) = 15
-failing (method ms) = 10
-failing (path-prefix p) = 11
-failing (ip-cidr p) = 16
-failing (bytes-le n) = 12
-failing (rate per-s burst) = 17
-failing (tenant t) = 18
-failing (amnesia b) = 19
-failing (gov-policy-digest d) = 20
-failing (custom ns name value) = 21
+-- the answer where a caveat fails
+unfoldable pub failing : Caveat → Answer
+failing (exp n) = CaveatExp
+failing (nbf n) = CaveatNbf
+failing (aud a) = CaveatAud
+failing (method ms) = CaveatMethod
+failing (path-prefix p) = CaveatPath
+failing (ip-cidr p) = CaveatIp
+failing (bytes-le n) = CaveatBytes
+failing (rate per-s burst) = CaveatRate
+failing (tenant t) = CaveatTenant
+failing (amnesia b) = CaveatAmnesia
+failing (gov-policy-digest d) = CaveatPolicyDigest
+failing (custom ns name value) = CaveatCustomUnknown
 
 -- `tid` is the token's
 unfoldable pub caveatHolds : Request → List ℕ → Caveat → Bool
@@ -58,6 +61,7 @@ caveatHolds r tid (nbf n) = leb n (r .now + r .skew)
 caveatHolds r tid (aud a) = onlyThere (sameOf a) (r .audience)
 caveatHolds r tid (method ms) = memberOf (r .method) ms
 caveatHolds r tid (path-prefix p) = fitsOf p (r .path)
+-- "a present peer's first n bits agree": byte by byte; that these are the bits, `Agree` of `cidr`, is `first-bits` of proofs/Meanings.antt
 caveatHolds r tid (ip-cidr p) = onlyThere (λ x. agreeOf (addressBytes p) x (p .size)) (r .peer)
 caveatHolds r tid (bytes-le n) = leb (r .size) n
 caveatHolds r tid (rate per-s burst) = onlyThere (within per-s burst) (r .rate)
@@ -73,7 +77,7 @@ unfoldable pub scopeAnswer : Request → Scope → ℕ
 scopeAnswer r x =
     pick (memberOf (r .method) (x .methods))
     (pick (ifThere (λ p. fitsOf p (r .path)) (x .prefix))
-    (pick (ifThere (leb (r .size)) (x .max-bytes)) 0 12) 11) 10
+    (pick (ifThere (leb (r .size)) (x .max-bytes)) (numberOf Allow) (numberOf CaveatBytes)) (numberOf CaveatPath)) (numberOf CaveatMethod)
 
 unfoldable pub caveatAnswer : Request → List ℕ → Caveat → ℕ
-caveatAnswer r tid c = pick (caveatHolds r tid c) 0 (failing c)
+caveatAnswer r tid c = pick (caveatHolds r tid c) (numberOf Allow) (numberOf (failing c))

@@ -1,0 +1,56 @@
+-- Issue, one equation for each case of its verdict.
+use mathlib.Core.Path.{_≡_, refl, sym, ap, ap₂, _∙_}
+use mathlib.Core.Bool.{Bool, false}
+use mathlib.Core.List.{List, [], append-nil}
+use Prim.Native.Nat.{ℕ}
+use native.Mathlib.Omega.{arith}
+use lib.ListN.{length}
+use Rattle.basis.specs.Basis.{pick, IsBytes}
+use Rattle.chain.specs.Chain.{firstLink, chainOf, tagOf}
+use Rattle.scope.specs.Scopes.{Scope, encodeScope}
+use Rattle.scope.proofs.ScopeWritten.{scope-written}
+use Rattle.token.proofs.WritingLaws.{fresh-written}
+use Rattle.tables.specs.Tables.{Row, encodeTable, hasRow, keyIn}
+use Rattle.tables.specs.Reading.{findFrom}
+use Rattle.tables.proofs.TableLaws.{find-finds, key-of-row}
+use Rattle.handing.specs.Handing.{refused, handed}
+use Rattle.issuing.specs.Issuing.{issueWith, issueOf}
+use Rattle.issuing.proofs.Fresh.{issue-bad-table, issue-bad-scope, issue-left-over, issue-found}
+use Rattle.bhinorpa.specs.Allowed.{TableOf, textOf}
+use Rattle.bhinorpa.specs.Handouts.{ScopeOf, Grant, freshToken}
+use Rattle.bhinorpa.specs.Verdicts.{NoTable, ScopeDefect, scope-unreadable, scope-left-over}
+use Rattle.bhinorpa.proofs.Tables.{good-table, bad-table}
+use Rattle.bhinorpa.proofs.Items.{all-left}
+
+module _ (table tid kid bytes : List ℕ) where
+  pub issue-no-table : IsBytes table → NoTable table → issueOf table tid kid bytes ≡ refused 1
+  issue-no-table b h = sym (issue-bad-table table tid kid bytes (bad-table table b h))
+
+  module _ (rows : List Row) (t : TableOf table rows) where
+    pub issue-defect : (n : ℕ) → ScopeDefect bytes n → issueOf table tid kid bytes ≡ refused n
+    issue-defect n (scope-unreadable at e) = sym (issue-bad-scope table tid kid bytes (good-table table rows t) e)
+    issue-defect n (scope-left-over scope g rest e h z) =
+        let w = scope-written scope g bytes rest 0 e in
+        sym (issue-left-over table tid kid bytes (good-table table rows t) (w .answer) (λ l. all-left bytes (encodeScope scope) rest e h (omega (arith, l)))) ∙ ap refused (sym z)
+
+    found : (scope : Scope) → issueWith (findFrom 64 (encodeTable rows) tid kid 0) tid kid (encodeScope scope)
+        ≡ pick (hasRow rows tid kid) (handed (textOf (freshToken rows scope tid kid))) (refused 7)
+    unfolding issueWith tagOf chainOf
+    found scope =
+        let key = keyIn rows tid kid in
+        rw (find-finds rows (t .good) tid kid, key-of-row rows (t .good) tid kid, fresh-written scope (firstLink key tid kid (encodeScope scope)) kid tid)
+
+    pub issue-scoped : (scope : Scope) → ScopeOf bytes scope → issueOf table tid kid bytes ≡ pick (hasRow rows tid kid) (handed (textOf (freshToken rows scope tid kid))) (refused 7)
+    issue-scoped scope s =
+        let w = scope-written scope (s .good) bytes [] 0 (s .written ∙ sym (append-nil (encodeScope scope))) in
+        sym (issue-found table tid kid bytes (good-table table rows t) (w .answer) (omega (arith, ap length (s .written))) refl)
+        ∙ ap₂ (λ (a b : List ℕ). issueWith (findFrom 64 a tid kid 0) tid kid b) (t .written) (s .written)
+        ∙ found scope
+
+    pub issue-unknown : (scope : Scope) → ScopeOf bytes scope → hasRow rows tid kid ≡ false → issueOf table tid kid bytes ≡ refused 7
+    issue-unknown scope s k = issue-scoped scope s ∙ ap (λ (b : Bool). pick b (handed (textOf (freshToken rows scope tid kid))) (refused 7)) k
+
+  pub issue-granted : (rows : List Row) (scope : Scope) → Grant table tid kid bytes rows scope → issueOf table tid kid bytes ≡ handed (textOf (freshToken rows scope tid kid))
+  issue-granted rows scope g =
+      issue-scoped rows (g .table-is) scope (g .scope-is)
+      ∙ ap (λ (b : Bool). pick b (handed (textOf (freshToken rows scope tid kid))) (refused 7)) (g .known)
