@@ -2,8 +2,9 @@
 use mathlib.Core.Path.{_≡_, sym, _∙_}
 use mathlib.Core.Bool.{Bool}
 use mathlib.Core.List.{List}
-use Prim.Native.Nat.{ℕ, _+_}
-use Rattle.basis.specs.Basis.{between, Written}
+use Prim.Native.Nat.{ℕ, _+_, min}
+use lib.ListN.{length}
+use Rattle.basis.specs.Basis.{between, behind, partPlace, Written}
 use Rattle.basis.specs.Same.{sameOf}
 
 pub told : {A : Type 0} {x r s : A} → r ≡ x → s ≡ x → r ≡ s
@@ -16,9 +17,14 @@ put-one-answer text entry p q = (told (p .counted) (q .counted), told (p .conten
 pub same-one-answer : (x y : List ℕ) {r s : Bool} → r ≡ sameOf x y → s ≡ sameOf x y → r ≡ s
 same-one-answer x y p q = told p q
 
--- of the part that is handed back, the bytes
-pub part-one-answer : (s : List ℕ) (from to : ℕ) {r q : List ℕ} → r ≡ between s from to → q ≡ between s from to → r ≡ q
-part-one-answer s from to x y = told x y
+-- a part that is handed back is told by its bytes and by its place
+pub lent : {x r q : List ℕ} {p a b : ℕ × ℕ} → (r ≡ x) × (a ≡ p) → (q ≡ x) × (b ≡ p) → (r ≡ q) × (a ≡ b)
+lent x y = (told (x .0) (y .0), told (x .1) (y .1))
 
-pub run-one-answer : (s : List ℕ) (from n : ℕ) {r q : List ℕ} → r ≡ between s from (from + n) → q ≡ between s from (from + n) → r ≡ q
-run-one-answer s from n x y = told x y
+pub part-one-answer : (s : List ℕ) (from to : ℕ) (place : ℕ × ℕ) {r q : List ℕ} {a b : ℕ × ℕ} → (r ≡ between s from to) × (a ≡ behind place (partPlace s from to))
+    → (q ≡ between s from to) × (b ≡ behind place (partPlace s from to)) → (r ≡ q) × (a ≡ b)
+part-one-answer s from to place x y = lent x y
+
+pub run-one-answer : (s : List ℕ) (from n : ℕ) (place : ℕ × ℕ) {r q : List ℕ} {a b : ℕ × ℕ} → (r ≡ between s from (from + n)) × (a ≡ behind place (min from (length s)))
+    → (q ≡ between s from (from + n)) × (b ≡ behind place (min from (length s))) → (r ≡ q) × (a ≡ b)
+run-one-answer s from n place x y = lent x y

@@ -2,11 +2,11 @@
 use mathlib.Core.Path.{_≡_, refl, sym, ap, _∙_}
 use mathlib.Core.Bool.{Bool, true, false}
 use mathlib.Core.List.{List, [], _++_}
-use borrow.Author.Tests.{leb-true, leb-false, ltb-true, ltb-false}
+use borrow.Author.Tests.{leb-true, leb-false, ltb-true, ltb-false, lt-ltb, le-ltb}
 use lib.Dec.{leb, ltb}
 use Prim.Native.Nat.{ℕ, _+_, _-_, _≤_, _<_, min}
 use native.Mathlib.Omega.{arith}
-use Rattle.basis.specs.Basis.{between}
+use Rattle.basis.specs.Basis.{pick, between, behind, partPlace}
 use lib.ListN.{length, take, drop, length-append, length-drop, drop-of-length-le}
 use lib.Seq.{drop-drop, drop-at, take-at, take-append-seam, drop-append-seam, take-all, take-nil}
 
@@ -53,6 +53,16 @@ some-part s from to end e h = by (leb to (length s)) refl
         let q = leb-false to (length s) p in
         take-all (end - from) (drop from s) (simp length-drop (omega (arith, e)))
         ∙ sym (take-all (to - from) (drop from s) (simp length-drop (omega (arith, e))))
+
+-- where it lies: at its first place, or at the beginning
+pub no-place : (s : List ℕ) (from to end : ℕ) → end ≡ min to (length s) → end < from → (p : ℕ × ℕ) → behind p 0 ≡ behind p (partPlace s from to)
+no-place s from to end e h p = ap (behind p) (sym (ap (λ (b : Bool). pick b 0 from) (lt-ltb (min to (length s)) from (omega (arith, e, h)))))
+
+pub some-place : (s : List ℕ) (from to end : ℕ) → end ≡ min to (length s) → from ≤ end → (p : ℕ × ℕ) → behind p from ≡ behind p (partPlace s from to)
+some-place s from to end e h p = ap (behind p) (sym (ap (λ (b : Bool). pick b 0 from) (le-ltb (min to (length s)) from (omega (arith, e, h)))))
+
+pub run-place : (from n start : ℕ) → start ≡ min from n → (p : ℕ × ℕ) → behind (behind p start) 0 ≡ behind p (min from n)
+run-place from n start e p = ap (λ (k : ℕ). (p .0, k)) (omega (arith, e))
 
 -- from a place on; past the end nothing is left
 pub part-from : (s : List ℕ) (at from : ℕ) → from ≡ min at (length s) → take (length s - from) (drop from s) ≡ drop at s

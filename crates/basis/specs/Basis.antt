@@ -3,11 +3,11 @@
 use mathlib.Core.Path.{_≡_}
 use mathlib.Core.Bool.{Bool, true, false}
 use mathlib.Core.List.{List, [], _∷_, _++_}
-use Prim.Native.Nat.{ℕ, zero, suc, _-_, _<_}
+use Prim.Native.Nat.{ℕ, zero, suc, _+_, _-_, _<_, min}
 use Prim.Native.Char.{code}
 use Prim.Native.String.{String, [] as none, _∷_ as _then_}
 use lib.ListN.{length, take, drop, getD}
-use lib.Dec.{leb}
+use lib.Dec.{leb, ltb}
 
 abbrev pub pick : {A : Type 0} → Bool → A → A → A
 pick true a b = a
@@ -25,6 +25,14 @@ IsBytes s = (i : ℕ) → getD s i 0 < 256
 -- the bytes from a place to another
 abbrev pub between : List ℕ → ℕ → ℕ → List ℕ
 between s from to = take (to - from) (drop from s)
+
+-- where a part that is handed back lies: so many bytes behind the first of what it is a part of. A place in memory is a block and an offset in it
+abbrev pub behind : ℕ × ℕ → ℕ → ℕ × ℕ
+behind place n = (place .0, n + place .1)
+
+-- from a place to another: at the first, or at the beginning where nothing lies between them
+abbrev pub partPlace : List ℕ → ℕ → ℕ → ℕ
+partPlace s from to = pick (ltb (min to (length s)) from) 0 from
 
 -- f 0, f 1, .., f (n - 1)
 unfoldable pub tab : ℕ → (ℕ → ℕ) → List ℕ

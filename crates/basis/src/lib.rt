@@ -1,7 +1,8 @@
 // What every crate needs of bytes and lent room, and the words that the definitions share.
 ghost use mathlib.Core.Path.{_≡_};
 ghost use Prim.Native.Nat.{_+_, min};
-ghost use Rattle.basis.specs.Basis.{between, Written};
+ghost use lib.ListN.{length};
+ghost use Rattle.basis.specs.Basis.{between, behind, partPlace, Written};
 ghost use Rattle.basis.specs.Same.{sameOf};
 
 // The smaller of two counts.
@@ -41,6 +42,7 @@ pub fn same(x: &[u8], y: &[u8]) -> bool
 // The bytes from a place to another, as far as there are any: for places that were told by someone else.
 pub fn part<'a>(s: &'a [u8], from: usize, to: usize) -> &'a [u8]
     ensures { λ r. ⌜ now r ≡ between (now (s .entry)) from to ⌝ }
+    ensures { λ r. ⌜ r .ptr ≡ behind (s .entry .ptr) (partPlace (now (s .entry)) from to) ⌝ }
 {
     let end = least(to, s.len());
     if end < from {
@@ -52,6 +54,7 @@ pub fn part<'a>(s: &'a [u8], from: usize, to: usize) -> &'a [u8]
 // So many bytes from a place on, as far as there are any.
 pub fn run<'a>(s: &'a [u8], from: usize, n: usize) -> &'a [u8]
     ensures { λ r. ⌜ now r ≡ between (now (s .entry)) from (from + n) ⌝ }
+    ensures { λ r. ⌜ r .ptr ≡ behind (s .entry .ptr) (min from (length (now (s .entry)))) ⌝ }
 {
     let start = least(from, s.len());
     let rest = &s[start..];

@@ -2,13 +2,11 @@
 use mathlib.Core.Path.{_≡_, refl, ap, subst, _∙_}
 use mathlib.Core.Bool.{Bool, true, false}
 use mathlib.Core.List.{List, []}
-use Prim.Native.Nat.{ℕ, _≤_}
+use Prim.Native.Nat.{ℕ}
 use native.Mathlib.Omega.{arith}
-use borrow.Author.Tests.{le-ltb}
-use lib.Dec.{ltb}
 use lib.ListN.{length}
-use Rattle.basis.specs.Basis.{pick, IsBytes}
-use Rattle.basis.proofs.All.{all, all-at}
+use Rattle.basis.specs.Basis.{IsBytes}
+use Rattle.basis.proofs.All.{all}
 use Rattle.scope.specs.Scopes.{Scope}
 use Rattle.tables.specs.Tables.{Row, hasRow, keyIn}
 use Rattle.handing.specs.Handing.{Handed, answerOf, Handing}
@@ -20,6 +18,7 @@ use Rattle.bhinorpa.specs.Allowed.{TableOf, textOf, caveatBytes, chainTa
 use Rattle.bhinorpa.specs.Handouts.{ScopeOf, Grant, freshToken, Issued}
 use Rattle.bhinorpa.specs.Verdicts.{out-short, done, IssueVerdict, issue-table-bad, issue-scope-bad, issue-kid-unknown, issue-grants, oneOf, issueAnswers}
 use Rattle.bhinorpa.specs.Demands.{IssueList, IssueFirstFailing, IssueVerdictOne, IdsOfRows, IssueRefusals, IssueWrites}
+use Rattle.bhinorpa.proofs.Lists.{listed}
 use Rattle.bhinorpa.proofs.Rooms.{refuses, refuses-back, hands-out, hands-back, wrote}
 use Rattle.bhinorpa.proofs.Tables.{TableIs, no-table, one-table, table-is}
 use Rattle.bhinorpa.proofs.Items.{ScopeIs, no-scope, one-scope, scope-is, scope-few}
@@ -61,18 +60,13 @@ pub issue-verdict-one : IssueVerdictOne
 issue-verdict-one table tid kid bytes bt entry first second left right v w =
     issue-one-answer table tid kid bytes entry (verdict-is table tid kid bytes bt entry first left v) (verdict-is table tid kid bytes bt entry second right w)
 
--- 4 to 6 are on the list
-listed : (n : ℕ) → 4 ≤ n → n ≤ 6 → oneOf issueAnswers n ≡ true
-unfolding all oneOf
-listed n l h = rw (le-ltb n 4 l) at (all-at 7 (λ n. pick (ltb n 4) true (oneOf issueAnswers n)) refl n (omega arith))
-
 pub issue-list : IssueList
-unfolding oneOf
+unfolding all oneOf
 issue-list table tid kid bytes bt bb entry outcome exit w = by (issue-first-failing table tid kid bytes bt bb entry outcome exit w)
   where
     by : IssueVerdict table tid kid bytes entry outcome exit → oneOf issueAnswers (outcome .answer) ≡ true
     by (issue-table-bad h r) = rw (r .answer)
-    by (issue-scope-bad rows t n d r) = let k = scope-few bytes n d in rw (r .answer) (listed n (k .0) (k .1))
+    by (issue-scope-bad rows t n d r) = let k = scope-few bytes n d in rw (r .answer) (listed (oneOf issueAnswers) 4 refl n (k .0) (k .1))
     by (issue-kid-unknown rows t scope s k r) = rw (r .answer)
     by (issue-grants rows scope g (done l r)) = rw (r .answer)
     by (issue-grants rows scope g (out-short l r)) = rw (r .answer)

@@ -5,12 +5,12 @@ use mathlib.Core.Bool.{Bool, true, false}
 use mathlib.Core.List.{List}
 use Prim.Native.Nat.{ℕ, _+_, _≤_, _<_}
 use native.Mathlib.Omega.{arith}
-use borrow.Author.Tests.{eqb-true, eqb-false, ltb-true, ltb-false, le-ltb}
+use borrow.Author.Tests.{eqb-true, eqb-false, ltb-true, ltb-false}
 use lib.Dec.{eqb, leb, ltb}
 use lib.ListN.{length}
 use Rattle.basis.specs.Basis.{pick, IsBytes}
 use Rattle.basis.specs.Same.{sameOf}
-use Rattle.basis.proofs.All.{all, all-at}
+use Rattle.basis.proofs.All.{all}
 use Rattle.basis.proofs.Sameness.{same-equal, equal-same}
 use Rattle.caveat.specs.Caveats.{Caveat}
 use Rattle.token.specs.Tokens.{Token, encodeToken}
@@ -23,6 +23,7 @@ use Rattle.bhinorpa.specs.Allowed.{TableOf, textOf, Canonical, chainTag,
 use Rattle.bhinorpa.specs.Handouts.{CaveatOf, Parent, childToken}
 use Rattle.bhinorpa.specs.Verdicts.{Handout, out-short, done, NarrowVerdict, narrow-table-bad, narrow-no-token, narrow-kid-unknown, narrow-mac, narrow-caveat-bad, narrow-full, narrow-size-full, narrow-hands, oneOf, narrowAnswers}
 use Rattle.bhinorpa.specs.Demands.{NarrowList, NarrowFirstFailing, NarrowVerdictOne, NarrowWrites, NarrowingRefusals}
+use Rattle.bhinorpa.proofs.Lists.{listed}
 use Rattle.bhinorpa.proofs.Rooms.{refuses, refuses-back, hands-out, hands-back, wrote}
 use Rattle.bhinorpa.proofs.Tables.{TableIs, no-table, one-table, table-is}
 use Rattle.bhinorpa.proofs.Texts.{TextIs, no-token, one-token, text-is, defect-few}
@@ -107,25 +108,16 @@ pub narrow-verdict-one : NarrowVerdictOne
 narrow-verdict-one table text bytes bt entry first second left right v w =
     narrow-one-answer table text bytes entry (verdict-is table text bytes bt entry first left v) (verdict-is table text bytes bt entry second right w)
 
--- 3 to 6, and 31 to 33, are on the list
-listed : (n : ℕ) → 3 ≤ n → n ≤ 6 → oneOf narrowAnswers n ≡ true
-unfolding all oneOf
-listed n l h = rw (le-ltb n 3 l) at (all-at 7 (λ n. pick (ltb n 3) true (oneOf narrowAnswers n)) refl n (omega arith))
-
-caveat-listed : (n : ℕ) → 4 ≤ n → n ≤ 6 → oneOf narrowAnswers (n + 27) ≡ true
-unfolding all oneOf
-caveat-listed n l h = rw (le-ltb n 4 l) at (all-at 7 (λ n. pick (ltb n 4) true (oneOf narrowAnswers (n + 27))) refl n (omega arith))
-
 pub narrow-list : NarrowList
-unfolding oneOf
+unfolding all oneOf
 narrow-list table text bytes bt bb entry outcome exit w = by (narrow-first-failing table text bytes bt bb entry outcome exit w)
   where
     by : NarrowVerdict table text bytes entry outcome exit → oneOf narrowAnswers (outcome .answer) ≡ true
     by (narrow-table-bad h r) = rw (r .answer)
-    by (narrow-no-token rows t n d r) = let k = defect-few text n d in rw (r .answer) (listed n (k .0) (k .1))
+    by (narrow-no-token rows t n d r) = let k = defect-few text n d in rw (r .answer) (listed (oneOf narrowAnswers) 3 refl n (k .0) (k .1))
     by (narrow-kid-unknown rows t token c k r) = rw (r .answer)
     by (narrow-mac rows t token c k d r) = rw (r .answer)
-    by (narrow-caveat-bad rows token p n d r) = let k = caveat-few bytes n d in rw (r .answer) (caveat-listed n (k .0) (k .1))
+    by (narrow-caveat-bad rows token p n d r) = let k = caveat-few bytes n d in rw (r .answer) (listed (λ n. oneOf narrowAnswers (n + 27)) 4 refl n (k .0) (k .1))
     by (narrow-full rows token p added a f r) = rw (r .answer)
     by (narrow-size-full rows token p added a l g r) = rw (r .answer)
     by (narrow-hands rows token p added a l g (done m r)) = rw (r .answer)

@@ -1,4 +1,5 @@
 pub mod AreBytes
+pub mod Lists
 pub mod Rooms
 pub mod Tables
 pub mod Texts
@@ -14,4 +15,5 @@ pub mod NarrowIs
 pub mod DemandsNarrow
 pub mod DemandsNarrowing
 pub mod DemandsRebuilt
+pub mod Demands
 pub mod OneAnswer

@@ -12,7 +12,7 @@ use Rattle.basis.proofs.Parts.{on}
 use Rattle.records.specs.Records.{little, recordBytes, runAt, numberAt, recordAt}
 use Rattle.tables.specs.Order.{sameIds}
 use Rattle.tables.specs.Tables.{Row, encodeRow, encodeTable, GoodFrom, GoodTable, hasRow, keyIn}
-use Rattle.tables.specs.Reading.{rowAt, afterRow, orderedThen, rowAfter, okThen, okFrom, tableOk, findThen, findFrom, lookupOf}
+use Rattle.tables.specs.Reading.{rowAt, afterRow, orderedThen, rowAfter, okThen, okFrom, tableOk, foundThen, foundFrom, findFrom, lookupOf}
 use Rattle.tables.specs.declared.Row.{Row as Parts}
 use Rattle.tables.specs.declared.Row.the-variants.{Of, Bad}
 use Rattle.tables.proofs.Rows.{row-written, row-read}
@@ -99,7 +99,7 @@ no-row s at z = rw (le-ltb (length s) at (omega arith), lt-ltb (length s - at) 2
 
 find-written : (rs : List Row) (n : ℕ) → length rs ≤ n → (t k : List ℕ) → GoodFrom t k rs → (s tid kid : List ℕ) (at : ℕ) → at ≤ length s → drop at s ≡ encodeTable rs
     → findFrom n s tid kid at ≡ keyIn rs tid kid
-unfolding GoodFrom encodeTable findFrom findThen keyIn
+unfolding GoodFrom encodeTable findFrom foundFrom foundThen keyIn
 find-written [] zero l t k g s tid kid at i e = refl
 find-written [] (suc n) l t k g s tid kid at i e = rw (no-row s at (at-end s at i e))
 find-written (r ∷ rs) zero l t k g s tid kid at i e = let z : ⊥ = omega arith in elim z [ ]

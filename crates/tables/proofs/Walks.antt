@@ -1,14 +1,15 @@
 -- The walks over a table's rows, in the terms that the code has: one law for each way out and for a turn.
-use mathlib.Core.Path.{_≡_, refl, ap, _∙_}
+use mathlib.Core.Path.{_≡_, refl, sym, ap, _∙_}
 use mathlib.Core.Bool.{Bool, true, false}
 use mathlib.Core.List.{List, []}
-use Prim.Native.Nat.{ℕ, zero, suc, _-_, _<_}
+use Prim.Native.Nat.{ℕ, zero, suc, _+_, _-_, _<_}
 use native.Mathlib.Omega.{arith}
 use borrow.Author.Tests.{eq-eqb, ne-eqb}
-use lib.ListN.{length}
-use Rattle.basis.specs.Basis.{pick, between, IsBytes}
+use lib.ListN.{length, drop, length-take}
+use Rattle.basis.specs.Basis.{pick, between, behind, IsBytes}
+use Rattle.basis.proofs.Parts.{take-least}
 use Rattle.tables.specs.Order.{ascends, sameIds}
-use Rattle.tables.specs.Reading.{Inside, rowAt, afterRow, orderedThen, rowAfter, okFrom, tableOk, findThen, findFrom}
+use Rattle.tables.specs.Reading.{Inside, rowAt, afterRow, orderedThen, rowAfter, okFrom, tableOk, foundThen, foundFrom, findFrom, keyStart, placeFrom}
 use Rattle.tables.specs.declared.Row.{Row}
 use Rattle.tables.specs.declared.Row.the-variants.{Of, Bad}
 use Rattle.tables.proofs.Rows.{row-read}
@@ -75,20 +76,72 @@ module _ {s : List ℕ} {left p t t-end k k-end : ℕ} (w : Judged s left p t t-
             rest = rw (ne-eqb p (length s) h, e) at one;
           }
 
--- the lookup: what follows decides
-module _ (n : ℕ) (s tid kid : List ℕ) (p : ℕ) (g : 0 < n) where
-  one-row : findFrom (suc (n - 1)) s tid kid p ≡ findFrom n s tid kid p
-  one-row = let z : suc (n - 1) ≡ n = omega arith in ap (λ (n : ℕ). findFrom n s tid kid p) z
+-- the lookup: what follows decides, whatever is made of the key's place
+module _ {A : Type 0} (none : A) (key : ℕ → ℕ → A) (n : ℕ) (s tid kid : List ℕ) (p : ℕ) (g : 0 < n) where
+  one-row : foundFrom none key (suc (n - 1)) s tid kid p ≡ foundFrom none key n s tid kid p
+  one-row = let z : suc (n - 1) ≡ n = omega arith in ap (λ (n : ℕ). foundFrom none key n s tid kid p) z
 
-  pub find-none : rowAt s p ≡ Bad → [] ≡ findFrom n s tid kid p
-  unfolding findFrom
+  pub find-none : rowAt s p ≡ Bad → none ≡ foundFrom none key n s tid kid p
+  unfolding foundFrom
   find-none e = rw e at one-row
 
   module _ {t t-end k k-end next : ℕ} (e : rowAt s p ≡ Of t t-end k k-end next) where
-    pub find-here : sameIds (between s t t-end) (between s k k-end) tid kid ≡ true → between s k-end next ≡ findFrom n s tid kid p
-    unfolding findFrom findThen
+    pub find-here : sameIds (between s t t-end) (between s k k-end) tid kid ≡ true → key k-end next ≡ foundFrom none key n s tid kid p
+    unfolding foundFrom foundThen
     find-here q = rw (e, q) at one-row
 
-    pub find-on : sameIds (between s t t-end) (between s k k-end) tid kid ≡ false → findFrom (n - 1) s tid kid next ≡ findFrom n s tid kid p
-    unfolding findFrom findThen
+    pub find-on : sameIds (between s t t-end) (between s k k-end) tid kid ≡ false → foundFrom none key (n - 1) s tid kid next ≡ foundFrom none key n s tid kid p
+    unfolding foundFrom foundThen
     find-on q = rw (e, q) at one-row
+
+-- what the walk keeps: the key and its place
+abbrev pub Finds : List ℕ → List ℕ → List ℕ → ℕ → ℕ → Type 0
+Finds s tid kid rows p =
+    (foundFrom [] (between s) rows s tid kid p ≡ foundFrom [] (between s) 64 s tid kid 0) × (foundFrom 0 keyStart rows s tid kid p ≡ foundFrom 0 keyStart 64 s tid kid 0)
+
+module _ (s tid kid : List ℕ) (rows p : ℕ) (w : Finds s tid kid rows p) (place : ℕ × ℕ) where
+  -- the key that is handed back is that part of the table
+  abbrev Handed : List ℕ → ℕ × ℕ → Type 0
+  Handed part at = (part ≡ findFrom 64 s tid kid 0) × (at ≡ behind place (placeFrom 64 s tid kid 0))
+
+  pub ends-none : rows ≡ 0 → Handed [] (behind place 0)
+  unfolding findFrom placeFrom foundFrom
+  ends-none z = let v = rw z at w in (v .0, ap (behind place) (v .1))
+
+  module _ (g : 0 < rows) where
+    pub hands-none : rowAt s p ≡ Bad → Handed [] (behind place 0)
+    unfolding findFrom placeFrom
+    hands-none e = (find-none [] (between s) rows s tid kid p g e ∙ w .0, ap (behind place) (find-none 0 keyStart rows s tid kid p g e ∙ w .1))
+
+    module _ {t t-end k k-end next : ℕ} (e : rowAt s p ≡ Of t t-end k k-end next) where
+      pub hands-key : sameIds (between s t t-end) (between s k k-end) tid kid ≡ true → Handed (between s k-end next) (behind place k-end)
+      unfolding findFrom placeFrom
+      hands-key q = (find-here [] (between s) rows s tid kid p g e q ∙ w .0, ap (behind place) (find-here 0 keyStart rows s tid kid p g e q ∙ w .1))
+
+      pub finds-on : sameIds (between s t t-end) (between s k k-end) tid kid ≡ false → Finds s tid kid (rows - 1) next
+      finds-on q = (find-on [] (between s) rows s tid kid p g e q ∙ w .0, find-on 0 keyStart rows s tid kid p g e q ∙ w .1)
+
+-- what is found stands at its place, as many bytes as it has
+same-run : (s : List ℕ) (from to : ℕ) → between s from to ≡ between s from (from + length (between s from to))
+same-run s from to =
+    let n : from + length (between s from to) - from ≡ length (between s from to) = omega arith in
+    rw n (sym (take-least (drop from s) (to - from) (length (between s from to)) (length-take (to - from) (drop from s))))
+
+abbrev pub Lies : List ℕ → List ℕ → ℕ → Type 0
+Lies s key place = key ≡ between s place (place + length key)
+
+pub key-lies : (n : ℕ) (s tid kid : List ℕ) (at : ℕ)
+    → Lies s (findFrom n s tid kid at) (placeFrom n s tid kid at)
+unfolding findFrom placeFrom foundFrom foundThen
+key-lies zero s tid kid at = refl
+key-lies (suc n) s tid kid at = by (rowAt s at) (key-lies n s tid kid)
+  where
+    here : (t t-end k k-end next : ℕ) (b : Bool) → Lies s (foundFrom [] (between s) n s tid kid next) (foundFrom 0 keyStart n s tid kid next)
+        → Lies s (pick b (between s k-end next) (foundFrom [] (between s) n s tid kid next)) (pick b k-end (foundFrom 0 keyStart n s tid kid next))
+    here t t-end k k-end next true m = same-run s k-end next
+    here t t-end k k-end next false m = m
+
+    by : (r : Row) → ((next : ℕ) → Lies s (foundFrom [] (between s) n s tid kid next) (foundFrom 0 keyStart n s tid kid next))
+        → Lies s (afterRow [] (foundThen (between s) (foundFrom [] (between s) n s tid kid) s tid kid) r) (afterRow 0 (foundThen keyStart (foundFrom 0 keyStart n s tid kid) s tid kid) r)
+    by Bad m = refl
+    by (Of t t-end k k-end next) m = here t t-end k k-end next (sameIds (between s t t-end) (between s k k-end) tid kid) (m next)

@@ -59,14 +59,26 @@ okFrom (suc n) s t k at = pick (eqb at (length s)) true (afterRow false (okThen 
 unfoldable pub tableOk : List ℕ → Bool
 tableOk s = okFrom 64 s [] [] 0
 
-unfoldable pub findThen : (ℕ → List ℕ) → List ℕ → List ℕ → List ℕ → ℕ → ℕ → ℕ → ℕ → ℕ → List ℕ
-findThen rest s tid kid t tid-end k kid-end next =
-    pick (sameIds (between s t tid-end) (between s k kid-end) tid kid) (between s kid-end next) (rest next)
+-- the walk to the row with these ids, among at most so many rows from a place on: what is made of where its key lies, or of none
+unfoldable pub foundThen : {A : Type 0} → (ℕ → ℕ → A) → (ℕ → A) → List ℕ → List ℕ → List ℕ → ℕ → ℕ → ℕ → ℕ → ℕ → A
+foundThen key rest s tid kid t tid-end k kid-end next = pick (sameIds (between s t tid-end) (between s k kid-end) tid kid) (key kid-end next) (rest next)
 
--- among at most so many rows from a place on
+unfoldable pub foundFrom : {A : Type 0} → A → (ℕ → ℕ → A) → ℕ → List ℕ → List ℕ → List ℕ → ℕ → A
+foundFrom none key zero s tid kid at = none
+foundFrom none key (suc n) s tid kid at = afterRow none (foundThen key (foundFrom none key n s tid kid) s tid kid) (rowAt s at)
+
+-- the key's bytes, and the place where it lies in the table
 unfoldable pub findFrom : ℕ → List ℕ → List ℕ → List ℕ → ℕ → List ℕ
-findFrom zero s tid kid at = []
-findFrom (suc n) s tid kid at = afterRow [] (findThen (findFrom n s tid kid) s tid kid) (rowAt s at)
+findFrom n s tid kid at = foundFrom [] (between s) n s tid kid at
+
+abbrev pub keyStart : ℕ → ℕ → ℕ
+keyStart from to = from
+
+unfoldable pub placeFrom : ℕ → List ℕ → List ℕ → List ℕ → ℕ → ℕ
+placeFrom n s tid kid at = foundFrom 0 keyStart n s tid kid at
 
 unfoldable pub lookupOf : List ℕ → List ℕ → List ℕ → List ℕ
 lookupOf s tid kid = pick (tableOk s) (findFrom 64 s tid kid 0) []
+
+unfoldable pub lookupPlace : List ℕ → List ℕ → List ℕ → ℕ
+lookupPlace s tid kid = pick (tableOk s) (placeFrom 64 s tid kid 0) 0

@@ -5,8 +5,9 @@ use records::Record;
 use records::Run;
 ghost use mathlib.Core.Path.{_≡_};
 ghost use Rattle.tables.specs.Order.{beforeOf, ascends, sameIds};
-ghost use Rattle.basis.specs.Basis.{between};
-ghost use Rattle.tables.specs.Reading.{Inside, bodyThen, rowAt, rowAfter, tableOk, findFrom, lookupOf};
+ghost use Rattle.basis.specs.Basis.{between, behind};
+ghost use Rattle.tables.specs.Reading.{Inside, bodyThen, rowAt, rowAfter, tableOk};
+ghost use Rattle.tables.specs.Reading.{findFrom, placeFrom, lookupOf, lookupPlace};
 
 // Where tid and kid lie; the key lies from the end of kid to the end of the row.
 pub enum Row {
@@ -177,6 +178,7 @@ fn same_ids(t: &[u8], k: &[u8], tid: &[u8], kid: &[u8]) -> bool
 // The key of the row with these ids, as it lies in a table that was judged before.
 pub fn find<'a>(table: &'a [u8], tid: &[u8], kid: &[u8]) -> &'a [u8]
     ensures { λ r. ⌜ now r ≡ findFrom 64 (now (table .entry)) (now (tid .entry)) (now (kid .entry)) 0 ⌝ }
+    ensures { λ r. ⌜ r .ptr ≡ behind (table .entry .ptr) (placeFrom 64 (now (table .entry)) (now (tid .entry)) (now (kid .entry)) 0) ⌝ }
 {
     let mut rows: u32 = 64;
     let mut p: usize = 0;
@@ -205,6 +207,7 @@ pub fn find<'a>(table: &'a [u8], tid: &[u8], kid: &[u8]) -> &'a [u8]
 
 pub fn lookup<'a>(table: &'a [u8], tid: &[u8], kid: &[u8]) -> &'a [u8]
     ensures { λ r. ⌜ now r ≡ lookupOf (now (table .entry)) (now (tid .entry)) (now (kid .entry)) ⌝ }
+    ensures { λ r. ⌜ r .ptr ≡ behind (table .entry .ptr) (lookupPlace (now (table .entry)) (now (tid .entry)) (now (kid .entry))) ⌝ }
 {
     if table_ok(table) {
         return find(table, tid, kid);

@@ -1,4 +1,4 @@
-use Rattle.basis.proofs.Parts.{no-part, some-part}
+use Rattle.basis.proofs.Parts.{no-part, some-part, no-place, some-place}
 use borrow.Author.Needs.{needs}
 use Rattle.basis.proofs.part.Statement.{statement}
 use Rattle.basis.proofs.part.Tie as tie
@@ -19,7 +19,7 @@ part-result-end : tie.Need-part-result-end
 part-result-end c = search needs
 
 returns : tie.Need-returns
-returns c = no-part (c .before .before .before .before .args .s .now) (c .before .before .before .before .args .from) (c .before .before .before .before .args .to) _ (c .before .before .least .ensures) (c .before .if1 .taken)
+returns c = (no-part (c .before .before .before .before .args .s .now) (c .before .before .before .before .args .from) (c .before .before .before .before .args .to) _ (c .before .before .least .ensures) (c .before .if1 .taken), no-place (c .before .before .before .before .args .s .now) (c .before .before .before .before .args .from) (c .before .before .before .before .args .to) _ (c .before .before .least .ensures) (c .before .if1 .taken) _)
 
 part-result-start-2 : tie.Need-part-result-start-2
 part-result-start-2 c = search needs
@@ -28,7 +28,7 @@ part-result-end-2 : tie.Need-part-result-end-2
 part-result-end-2 c = search needs
 
 returns-2 : tie.Need-returns-2
-returns-2 c = some-part (c .before .before .before .before .args .s .now) (c .before .before .before .before .args .from) (c .before .before .before .before .args .to) _ (c .before .before .least .ensures) (c .before .if1 .left)
+returns-2 c = (some-part (c .before .before .before .before .args .s .now) (c .before .before .before .before .args .from) (c .before .before .before .before .args .to) _ (c .before .before .least .ensures) (c .before .if1 .left), some-place (c .before .before .before .before .args .s .now) (c .before .before .before .before .args .from) (c .before .before .before .before .args .to) _ (c .before .before .least .ensures) (c .before .if1 .left) _)
 
 pub part-spec : {M : Type 1} → statement M
 part-spec =

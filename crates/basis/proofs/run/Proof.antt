@@ -1,4 +1,5 @@
-use Rattle.basis.proofs.Parts.{run-part}
+use Rattle.basis.proofs.Parts.{run-part, run-place}
+use lib.ListN.{length}
 use borrow.Author.Needs.{needs}
 use Rattle.basis.proofs.run.Statement.{statement}
 use Rattle.basis.proofs.run.Tie as tie
@@ -31,7 +32,7 @@ part-result-end : tie.Need-part-result-end
 part-result-end c = search needs
 
 returns : tie.Need-returns
-returns c = run-part (c .before .before .before .before .before .args .s .now) (c .before .before .before .before .before .args .from) (c .before .before .before .before .before .args .n) _ _ (c .before .before .before .least .ensures) (c .before .least2 .ensures)
+returns c = (run-part (c .before .before .before .before .before .args .s .now) (c .before .before .before .before .before .args .from) (c .before .before .before .before .before .args .n) _ _ (c .before .before .before .least .ensures) (c .before .least2 .ensures), run-place (c .before .before .before .before .before .args .from) (length (c .before .before .before .before .before .args .s .now)) _ (c .before .before .before .least .ensures) _)
 
 pub run-spec : {M : Type 1} → statement M
 run-spec =

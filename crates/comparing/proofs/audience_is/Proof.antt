@@ -29,7 +29,7 @@ returns c = rw (c .enum-told .given .1)
 
 returns-2 : tie.Need-returns-2
 unfolding audienceIs
-returns-2 c = rw (c .before .before .before .audience .given .1) (c .same .ensures ∙ ap (λ (p : List ℕ). sameOf (c .before .before .before .before .before .before .before .args .a .now) p) (c .before .part .ensures))
+returns-2 c = rw (c .before .before .before .audience .given .1) (c .same .ensures ∙ ap (λ (p : List ℕ). sameOf (c .before .before .before .before .before .before .before .args .a .now) p) (c .before .part .ensures .0))
 
 pub audience-is-spec : {M : Type 1} → statement M
 audience-is-spec =

@@ -27,7 +27,7 @@ returns c = rw (c .enum-told .given .1)
 
 returns-2 : tie.Need-returns-2
 unfolding digestIs
-returns-2 c = rw (c .before .before .before .digest .given .1) (c .same .ensures ∙ ap (sameOf _) (c .before .run .ensures))
+returns-2 c = rw (c .before .before .before .digest .given .1) (c .same .ensures ∙ ap (sameOf _) (c .before .run .ensures .0))
 
 pub digest-is-spec : {M : Type 1} → statement M
 digest-is-spec =

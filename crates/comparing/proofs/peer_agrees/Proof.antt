@@ -40,7 +40,7 @@ returns c = rw (c .enum-told .given .1)
 
 returns-2 : tie.Need-returns-2
 unfolding peerAgrees
-returns-2 c = rw (c .before .before .before .before .peer .given .1) (rw (c .before .run .ensures) at (c .first-bits-agree .ensures))
+returns-2 c = rw (c .before .before .before .before .peer .given .1) (rw (c .before .run .ensures .0) at (c .first-bits-agree .ensures))
 
 pub peer-agrees-spec : {M : Type 1} → statement M
 peer-agrees-spec =

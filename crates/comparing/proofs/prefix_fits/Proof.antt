@@ -29,7 +29,7 @@ returns c = rw (c .enum-told .given .1)
 
 returns-2 : tie.Need-returns-2
 unfolding prefixFits
-returns-2 c = rw (c .before .before .before .prefix .given .1) (c .fits2 .ensures ∙ ap (λ (p : List ℕ). fitsOf p (c .before .before .before .before .before .before .before .args .path .now)) (c .before .part .ensures))
+returns-2 c = rw (c .before .before .before .prefix .given .1) (c .fits2 .ensures ∙ ap (λ (p : List ℕ). fitsOf p (c .before .before .before .before .before .before .before .args .path .now)) (c .before .part .ensures .0))
 
 pub prefix-fits-spec : {M : Type 1} → statement M
 prefix-fits-spec =

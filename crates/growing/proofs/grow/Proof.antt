@@ -54,7 +54,7 @@ refusal-requires-3 : tie.Need-refusal-requires-3
 refusal-requires-3 c κs = search needs
 
 returns-3 : tie.Need-returns-3
-returns-3 c = moved (child-too-long (c .before .before .before .before .before .before .before .before .before .before .before .before .before .before .before .before .before .before .before .args .key .now) (c .before .before .before .before .before .before .before .before .before .before .before .before .before .before .before .before .before .before .before .args .link) (c .before .before .before .before .before .before .before .before .before .before .before .before .before .before .before .before .before .before .before .args .s .now) (c .before .before .before .before .before .before .before .before .before .before .before .before .before .before .before .before .before .before .before .args .at) (c .before .before .before .before .before .before .before .before .before .before .before .before .before .before .before .before .before .before .before .args .caveats .now) (c .before .before .before .before .before .before .before .before .before .before .before .before .before .before .before .before .before .before .before .args .caveat .now) (c .before .before .before .before .before .before .before .before .before .before .before .before .if1 .left) (c .before .before .before .before .before .before .before .before .before .before .next-link .ensures) (c .before .before .before .before .before .before .before .before .before .part .ensures) (c .before .before .before .before .before .before .before .before .part2 .ensures) (c .before .before .before .before .before .before .before .part3 .ensures) (c .before .before .before .write-token .ensures) (length-replicate {A = ℕ} 4096 0) (c .before .if3 .taken)) (refused-is (c .refusal3 .ensures))
+returns-3 c = moved (child-too-long (c .before .before .before .before .before .before .before .before .before .before .before .before .before .before .before .before .before .before .before .args .key .now) (c .before .before .before .before .before .before .before .before .before .before .before .before .before .before .before .before .before .before .before .args .link) (c .before .before .before .before .before .before .before .before .before .before .before .before .before .before .before .before .before .before .before .args .s .now) (c .before .before .before .before .before .before .before .before .before .before .before .before .before .before .before .before .before .before .before .args .at) (c .before .before .before .before .before .before .before .before .before .before .before .before .before .before .before .before .before .before .before .args .caveats .now) (c .before .before .before .before .before .before .before .before .before .before .before .before .before .before .before .before .before .before .before .args .caveat .now) (c .before .before .before .before .before .before .before .before .before .before .before .before .if1 .left) (c .before .before .before .before .before .before .before .before .before .before .next-link .ensures) (c .before .before .before .before .before .before .before .before .before .part .ensures .0) (c .before .before .before .before .before .before .before .before .part2 .ensures .0) (c .before .before .before .before .before .before .before .part3 .ensures .0) (c .before .before .before .write-token .ensures) (length-replicate {A = ℕ} 4096 0) (c .before .if3 .taken)) (refused-is (c .refusal3 .ensures))
 
 sub-write-text : tie.Need-sub-write-text
 sub-write-text c = search needs
@@ -72,7 +72,7 @@ same-length : tie.Need-same-length
 same-length c = search needs
 
 returns-4 : tie.Need-returns-4
-returns-4 c = moved (child-handed (c .before .before .before .before .before .before .before .before .before .before .before .before .before .before .before .before .before .before .before .before .before .before .before .before .args .key .now) (c .before .before .before .before .before .before .before .before .before .before .before .before .before .before .before .before .before .before .before .before .before .before .before .before .args .link) (c .before .before .before .before .before .before .before .before .before .before .before .before .before .before .before .before .before .before .before .before .before .before .before .before .args .s .now) (c .before .before .before .before .before .before .before .before .before .before .before .before .before .before .before .before .before .before .before .before .before .before .before .before .args .at) (c .before .before .before .before .before .before .before .before .before .before .before .before .before .before .before .before .before .before .before .before .before .before .before .before .args .caveats .now) (c .before .before .before .before .before .before .before .before .before .before .before .before .before .before .before .before .before .before .before .before .before .before .before .before .args .caveat .now) (c .before .before .before .before .before .before .before .before .before .before .before .before .before .before .before .before .before .if1 .left) (c .before .before .before .before .before .before .before .before .before .before .before .before .before .before .before .next-link .ensures) (c .before .before .before .before .before .before .before .before .before .before .before .before .before .before .part .ensures) (c .before .before .before .before .before .before .before .before .before .before .before .before .before .part2 .ensures) (c .before .before .before .before .before .before .before .before .before .before .before .before .part3 .ensures) (made-lent _ _ (c .before .before .before .before .before .before .before .before .write-token .ensures) (made-fits _ _ (c .before .before .before .before .before .before .before .before .write-token .ensures) (c .before .before .before .before .before .before .if3 .left))) (rw (length-replicate {A = ℕ} 4096 0) at (made-fits _ _ (c .before .before .before .before .before .before .before .before .write-token .ensures) (c .before .before .before .before .before .before .if3 .left)))) (c .before .before .write-text .ensures)
+returns-4 c = moved (child-handed (c .before .before .before .before .before .before .before .before .before .before .before .before .before .before .before .before .before .before .before .before .before .before .before .before .args .key .now) (c .before .before .before .before .before .before .before .before .before .before .before .before .before .before .before .before .before .before .before .before .before .before .before .before .args .link) (c .before .before .before .before .before .before .before .before .before .before .before .before .before .before .before .before .before .before .before .before .before .before .before .before .args .s .now) (c .before .before .before .before .before .before .before .before .before .before .before .before .before .before .before .before .before .before .before .before .before .before .before .before .args .at) (c .before .before .before .before .before .before .before .before .before .before .before .before .before .before .before .before .before .before .before .before .before .before .before .before .args .caveats .now) (c .before .before .before .before .before .before .before .before .before .before .before .before .before .before .before .before .before .before .before .before .before .before .before .before .args .caveat .now) (c .before .before .before .before .before .before .before .before .before .before .before .before .before .before .before .before .before .if1 .left) (c .before .before .before .before .before .before .before .before .before .before .before .before .before .before .before .next-link .ensures) (c .before .before .before .before .before .before .before .before .before .before .before .before .before .before .part .ensures .0) (c .before .before .before .before .before .before .before .before .before .before .before .before .before .part2 .ensures .0) (c .before .before .before .before .before .before .before .before .before .before .before .before .part3 .ensures .0) (made-lent _ _ (c .before .before .before .before .before .before .before .before .write-token .ensures) (made-fits _ _ (c .before .before .before .before .before .before .before .before .write-token .ensures) (c .before .before .before .before .before .before .if3 .left))) (rw (length-replicate {A = ℕ} 4096 0) at (made-fits _ _ (c .before .before .before .before .before .before .before .before .write-token .ensures) (c .before .before .before .before .before .before .if3 .left)))) (c .before .before .write-text .ensures)
 
 pub grow-spec : {M : Type 1} → statement M
 grow-spec =

@@ -31,13 +31,13 @@ find-requires : tie.Need-find-requires
 find-requires c κs = search needs
 
 issue-with-requires : tie.Need-issue-with-requires
-issue-with-requires c κs = issuable (c .before .before .before .before .before .before .before .before .before .before .before .before .before .before .args .table .now) (c .before .before .before .before .before .before .before .before .before .before .before .before .before .before .args .tid .now) (c .before .before .before .before .before .before .before .before .before .before .before .before .before .before .args .kid .now) (c .before .before .before .before .before .before .before .before .before .before .before .before .before .before .args .scope .now) _ (λ i. c .before .before .before .before .before .before .before .before .before .before .before .before .before .shared-slice-known .given i .fits) (λ i. c .before .before .before .before .before .before .before .before .before .before .shared-slice-known4 .given i .fits) (sym (c .before .before .before .before .before .before .before .before .table-ok .ensures) ∙ c .before .before .before .before .before .before .before .if1 .taken) (sym (c .before .before .before .before .before .before .read-scope .ensures) ∙ c .before .before .before .before .next .given .1) (c .before .before .if2 .taken) (c .before .find .ensures)
+issue-with-requires c κs = issuable (c .before .before .before .before .before .before .before .before .before .before .before .before .before .before .args .table .now) (c .before .before .before .before .before .before .before .before .before .before .before .before .before .before .args .tid .now) (c .before .before .before .before .before .before .before .before .before .before .before .before .before .before .args .kid .now) (c .before .before .before .before .before .before .before .before .before .before .before .before .before .before .args .scope .now) _ (λ i. c .before .before .before .before .before .before .before .before .before .before .before .before .before .shared-slice-known .given i .fits) (λ i. c .before .before .before .before .before .before .before .before .before .before .shared-slice-known4 .given i .fits) (sym (c .before .before .before .before .before .before .before .before .table-ok .ensures) ∙ c .before .before .before .before .before .before .before .if1 .taken) (sym (c .before .before .before .before .before .before .read-scope .ensures) ∙ c .before .before .before .before .next .given .1) (c .before .before .if2 .taken) (c .before .find .ensures .0)
 
 same-length : tie.Need-same-length
 same-length c = search needs
 
 returns : tie.Need-returns
-returns c = moved (issue-found (c .before .before .before .before .before .before .before .before .before .before .before .before .before .before .before .before .before .args .table .now) (c .before .before .before .before .before .before .before .before .before .before .before .before .before .before .before .before .before .args .tid .now) (c .before .before .before .before .before .before .before .before .before .before .before .before .before .before .before .before .before .args .kid .now) (c .before .before .before .before .before .before .before .before .before .before .before .before .before .before .before .before .before .args .scope .now) (sym (c .before .before .before .before .before .before .before .before .before .before .before .table-ok .ensures) ∙ c .before .before .before .before .before .before .before .before .before .before .if1 .taken) (sym (c .before .before .before .before .before .before .before .before .before .read-scope .ensures) ∙ c .before .before .before .before .before .before .before .next .given .1) (c .before .before .before .before .before .if2 .taken) (c .before .before .before .before .find .ensures)) (c .before .before .issue-with .ensures)
+returns c = moved (issue-found (c .before .before .before .before .before .before .before .before .before .before .before .before .before .before .before .before .before .args .table .now) (c .before .before .before .before .before .before .before .before .before .before .before .before .before .before .before .before .before .args .tid .now) (c .before .before .before .before .before .before .before .before .before .before .before .before .before .before .before .before .before .args .kid .now) (c .before .before .before .before .before .before .before .before .before .before .before .before .before .before .before .before .before .args .scope .now) (sym (c .before .before .before .before .before .before .before .before .before .before .before .table-ok .ensures) ∙ c .before .before .before .before .before .before .before .before .before .before .if1 .taken) (sym (c .before .before .before .before .before .before .before .before .before .read-scope .ensures) ∙ c .before .before .before .before .before .before .before .next .given .1) (c .before .before .before .before .before .if2 .taken) (c .before .before .before .before .find .ensures .0)) (c .before .before .issue-with .ensures)
 
 refusal-requires-2 : tie.Need-refusal-requires-2
 refusal-requires-2 c κs = search needs

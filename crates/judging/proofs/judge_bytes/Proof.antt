@@ -32,13 +32,13 @@ with-key-requires : tie.Need-with-key-requires
 with-key-requires c κs = read-ready (c .before .before .before .before .before .before .before .before .before .before .before .before .args .s .now) (sym (c .before .before .before .before .before .before .before .read-token .ensures) ∙ c .before .before .before .before .before .count .given .1) (λ i. c .before .before .before .before .before .before .before .before .before .before .shared-slice-known2 .given i .fits) (c .before .before .before .before .before .before .before .before .before .before .before .before .pre) (c .if1 .taken)
 
 returns : tie.Need-returns
-returns c = c .with-key .ensures ∙ with-its-key (c .before .before .before .before .before .before .before .before .before .before .before .before .before .args .table .now) (c .before .before .before .before .before .before .before .before .before .before .before .before .before .args .s .now) (c .before .before .before .before .before .before .before .before .before .before .before .before .before .args .body .now) (c .before .before .before .before .before .before .before .before .before .before .before .before .before .args .asked) (c .before .before .before .before .before .before .before .before .before .before .before .before .before .args .tenant .now) (sym (c .before .before .before .before .before .before .before .before .read-token .ensures) ∙ c .before .before .before .before .before .before .count .given .1) (c .before .before .before .before .part .ensures) (c .before .before .before .part2 .ensures) (c .before .before .find .ensures) (c .before .if1 .taken)
+returns c = c .with-key .ensures ∙ with-its-key (c .before .before .before .before .before .before .before .before .before .before .before .before .before .args .table .now) (c .before .before .before .before .before .before .before .before .before .before .before .before .before .args .s .now) (c .before .before .before .before .before .before .before .before .before .before .before .before .before .args .body .now) (c .before .before .before .before .before .before .before .before .before .before .before .before .before .args .asked) (c .before .before .before .before .before .before .before .before .before .before .before .before .before .args .tenant .now) (sym (c .before .before .before .before .before .before .before .before .read-token .ensures) ∙ c .before .before .before .before .before .before .count .given .1) (c .before .before .before .before .part .ensures .0) (c .before .before .before .part2 .ensures .0) (c .before .before .find .ensures .0) (c .before .if1 .taken)
 
 returns-2 : tie.Need-returns-2
 returns-2 c = unreadable (c .before .before .before .before .before .before .before .before .args .table .now) (c .before .before .before .before .before .before .before .before .args .s .now) (c .before .before .before .before .before .before .before .before .args .body .now) (c .before .before .before .before .before .before .before .before .args .asked) (c .before .before .before .before .before .before .before .before .args .tenant .now) (sym (c .before .before .before .read-token .ensures) ∙ c .before .kind .given .1)
 
 returns-3 : tie.Need-returns-3
-returns-3 c = no-key (c .before .before .before .before .before .before .before .before .before .before .before .before .args .table .now) (c .before .before .before .before .before .before .before .before .before .before .before .before .args .s .now) (c .before .before .before .before .before .before .before .before .before .before .before .before .args .body .now) (c .before .before .before .before .before .before .before .before .before .before .before .before .args .asked) (c .before .before .before .before .before .before .before .before .before .before .before .before .args .tenant .now) (sym (c .before .before .before .before .before .before .before .read-token .ensures) ∙ c .before .before .before .before .before .count .given .1) (c .before .before .before .part .ensures) (c .before .before .part2 .ensures) (c .before .find .ensures) (c .if1 .left)
+returns-3 c = no-key (c .before .before .before .before .before .before .before .before .before .before .before .before .args .table .now) (c .before .before .before .before .before .before .before .before .before .before .before .before .args .s .now) (c .before .before .before .before .before .before .before .before .before .before .before .before .args .body .now) (c .before .before .before .before .before .before .before .before .before .before .before .before .args .asked) (c .before .before .before .before .before .before .before .before .before .before .before .before .args .tenant .now) (sym (c .before .before .before .before .before .before .before .read-token .ensures) ∙ c .before .before .before .before .before .count .given .1) (c .before .before .before .part .ensures .0) (c .before .before .part2 .ensures .0) (c .before .find .ensures .0) (c .if1 .left)
 
 pub judge-bytes-spec : {M : Type 1} → statement M
 judge-bytes-spec =

@@ -34,7 +34,7 @@ returns c = rw (sym (c .before .before .before .before .table-ok .ensures) ∙ c
 
 returns-2 : tie.Need-returns-2
 unfolding verifyOf requestThen
-returns-2 c = rw (sym (c .before .before .before .before .before .before .before .table-ok .ensures) ∙ c .before .before .before .before .before .before .if1 .taken, sym (c .before .before .before .before .before .read-request .ensures) ∙ c .before .before .before .time .given .1) (rw (c .before .part .ensures) at (c .judge-text .ensures))
+returns-2 c = rw (sym (c .before .before .before .before .before .before .before .table-ok .ensures) ∙ c .before .before .before .before .before .before .if1 .taken, sym (c .before .before .before .before .before .read-request .ensures) ∙ c .before .before .before .time .given .1) (rw (c .before .part .ensures .0) at (c .judge-text .ensures))
 
 returns-3 : tie.Need-returns-3
 unfolding verifyOf requestThen

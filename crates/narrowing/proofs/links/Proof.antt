@@ -49,7 +49,7 @@ part-requires : tie.Need-part-requires Inv-loop μ-loop
 part-requires c κs = search needs
 
 next-link-requires : tie.Need-next-link-requires Inv-loop μ-loop
-next-link-requires c κs = record { keyed = c .before .before .before .before .before .before .before .before .before .before .before .pre .key-long; narrow = rw (c .part2 .ensures) (simp (length-take, length-drop) (omega (arith, c .before .before .before .before .before .before .before .before .before .before .before .pre .short))) }
+next-link-requires c κs = record { keyed = c .before .before .before .before .before .before .before .before .before .before .before .pre .key-long; narrow = rw (c .part2 .ensures .0) (simp (length-take, length-drop) (omega (arith, c .before .before .before .before .before .before .before .before .before .before .before .pre .short))) }
 
 add-p : tie.Need-add-p Inv-loop μ-loop
 add-p c = record { fits = link-range (c .before .before .before .before .before .before .before .before .before .before .before .before .args .s .now) (c .before .before .before .before .before .before .before .before .before .before .before .before .args .key .now) (c .before .before .before .before .before .before .before .before .before .before .before .before .args .from) (c .before .before .before .before .before .before .before .before .before .before .before .before .args .count) (c .before .before .before .before .before .before .before .before .before .before .before .before .args .first) (c .before .before .before .before .before .before .before .before .before .loop .p) (c .before .before .before .before .before .before .before .before .before .loop .k) (c .before .before .before .before .before .before .before .before .before .loop .link) (c .before .before .before .before .before .before .before .before .before .loop .inv) (c .before .before .before .before .before .before .before .before .loop-test .taken) _ (c .before .before .before .before .before .before .before .least .ensures) (sym (c .before .before .before .before .before .read-caveat .ensures) ∙ c .before .before .before .next .given .1) (c .before .before .before .before .before .before .before .before .before .before .before .before .good .0 .0) }
@@ -61,7 +61,7 @@ loop-less : tie.Need-loop-less Inv-loop μ-loop
 loop-less c = search needs
 
 loop-again : tie.Need-loop-again Inv-loop μ-loop
-loop-again c = link-one (c .before .before .before .before .before .before .before .before .before .before .before .before .args .s .now) (c .before .before .before .before .before .before .before .before .before .before .before .before .args .key .now) (c .before .before .before .before .before .before .before .before .before .before .before .before .args .from) (c .before .before .before .before .before .before .before .before .before .before .before .before .args .count) (c .before .before .before .before .before .before .before .before .before .before .before .before .args .first) (c .before .before .before .before .before .before .before .before .before .loop .p) (c .before .before .before .before .before .before .before .before .before .loop .k) (c .before .before .before .before .before .before .before .before .before .loop .link) (c .before .before .before .before .before .before .before .before .before .loop .inv) (c .before .before .before .before .before .before .before .before .loop-test .taken) _ (c .before .before .before .before .before .before .before .least .ensures) (sym (c .before .before .before .before .before .read-caveat .ensures) ∙ c .before .before .before .next .given .1) (c .before .before .before .before .before .before .before .before .before .before .before .before .good .0 .0) (c .before .part2 .ensures) (c .next-link .ensures)
+loop-again c = link-one (c .before .before .before .before .before .before .before .before .before .before .before .before .args .s .now) (c .before .before .before .before .before .before .before .before .before .before .before .before .args .key .now) (c .before .before .before .before .before .before .before .before .before .before .before .before .args .from) (c .before .before .before .before .before .before .before .before .before .before .before .before .args .count) (c .before .before .before .before .before .before .before .before .before .before .before .before .args .first) (c .before .before .before .before .before .before .before .before .before .loop .p) (c .before .before .before .before .before .before .before .before .before .loop .k) (c .before .before .before .before .before .before .before .before .before .loop .link) (c .before .before .before .before .before .before .before .before .before .loop .inv) (c .before .before .before .before .before .before .before .before .loop-test .taken) _ (c .before .before .before .before .before .before .before .least .ensures) (sym (c .before .before .before .before .before .read-caveat .ensures) ∙ c .before .before .before .next .given .1) (c .before .before .before .before .before .before .before .before .before .before .before .before .good .0 .0) (c .before .part2 .ensures .0) (c .next-link .ensures)
 
 returns-2 : tie.Need-returns-2 Inv-loop μ-loop
 returns-2 c = linked-all (c .before .before .before .before .args .s .now) (c .before .before .before .before .args .key .now) (c .before .before .before .before .args .from) (c .before .before .before .before .args .count) (c .before .before .before .before .args .first) (c .before .loop .p) (c .before .loop .k) (c .before .loop .link) (c .before .loop .inv) (c .loop-test .left)

@@ -44,7 +44,7 @@ same-length : tie.Need-same-length
 same-length c = search needs
 
 returns : tie.Need-returns
-returns c = moved (narrow-found (c .before .before .before .before .before .before .before .before .before .before .before .before .before .before .before .before .before .args .table .now) (c .before .before .before .before .before .before .before .before .before .before .before .before .before .before .before .before .before .args .s .now) (c .before .before .before .before .before .before .before .before .before .before .before .before .before .before .before .before .before .args .caveat .now) (sym (c .before .before .before .before .before .before .before .before .before .before .before .before .read-token .ensures) ∙ c .before .before .before .before .before .before .before .before .before .before .count .given .1) (c .before .before .before .before .before .before .before .before .part .ensures) (c .before .before .before .before .before .before .before .part2 .ensures) (c .before .before .before .before .before .before .find .ensures) (c .before .before .before .before .before .if1 .taken) (c .before .before .before .before .part3 .ensures)) (c .before .before .narrow-with .ensures)
+returns c = moved (narrow-found (c .before .before .before .before .before .before .before .before .before .before .before .before .before .before .before .before .before .args .table .now) (c .before .before .before .before .before .before .before .before .before .before .before .before .before .before .before .before .before .args .s .now) (c .before .before .before .before .before .before .before .before .before .before .before .before .before .before .before .before .before .args .caveat .now) (sym (c .before .before .before .before .before .before .before .before .before .before .before .before .read-token .ensures) ∙ c .before .before .before .before .before .before .before .before .before .before .count .given .1) (c .before .before .before .before .before .before .before .before .part .ensures .0) (c .before .before .before .before .before .before .before .part2 .ensures .0) (c .before .before .before .before .before .before .find .ensures .0) (c .before .before .before .before .before .if1 .taken) (c .before .before .before .before .part3 .ensures .0)) (c .before .before .narrow-with .ensures)
 
 refusal-requires-2 : tie.Need-refusal-requires-2
 refusal-requires-2 c κs = search needs
@@ -53,7 +53,7 @@ returns-2 : tie.Need-returns-2
 returns-2 c = moved (narrow-unreadable (c .before .before .before .before .before .before .before .before .before .args .table .now) (c .before .before .before .before .before .before .before .before .before .args .s .now) (c .before .before .before .before .before .before .before .before .before .args .caveat .now) (sym (c .before .before .before .before .read-token .ensures) ∙ c .before .before .kind .given .1)) (refused-is (c .refusal .ensures))
 
 returns-3 : tie.Need-returns-3
-returns-3 c = moved (narrow-no-key (c .before .before .before .before .before .before .before .before .before .before .before .before .before .args .table .now) (c .before .before .before .before .before .before .before .before .before .before .before .before .before .args .s .now) (c .before .before .before .before .before .before .before .before .before .before .before .before .before .args .caveat .now) (sym (c .before .before .before .before .before .before .before .before .read-token .ensures) ∙ c .before .before .before .before .before .before .count .given .1) (c .before .before .before .before .part .ensures) (c .before .before .before .part2 .ensures) (c .before .before .find .ensures) (c .before .if1 .left)) (refused-is (c .refusal2 .ensures))
+returns-3 c = moved (narrow-no-key (c .before .before .before .before .before .before .before .before .before .before .before .before .before .args .table .now) (c .before .before .before .before .before .before .before .before .before .before .before .before .before .args .s .now) (c .before .before .before .before .before .before .before .before .before .before .before .before .before .args .caveat .now) (sym (c .before .before .before .before .before .before .before .before .read-token .ensures) ∙ c .before .before .before .before .before .before .count .given .1) (c .before .before .before .before .part .ensures .0) (c .before .before .before .part2 .ensures .0) (c .before .before .find .ensures .0) (c .before .if1 .left)) (refused-is (c .refusal2 .ensures))
 
 pub narrow-bytes-spec : {M : Type 1} → statement M
 narrow-bytes-spec =

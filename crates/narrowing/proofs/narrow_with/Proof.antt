@@ -25,7 +25,7 @@ part-requires-3 : tie.Need-part-requires-3
 part-requires-3 c κs = search needs
 
 first-link-requires : tie.Need-first-link-requires
-first-link-requires c κs = first-ready (c .before .before .before .before .before .before .before .before .args .key .now) (c .before .before .before .before .before .before .before .before .args .s .now) (c .before .before .before .before .before .before .before .before .args .at) _ _ _ (c .before .before .before .before .before .before .before .before .pre) (c .before .before .part .ensures) (c .before .part2 .ensures) (c .part3 .ensures)
+first-link-requires c κs = first-ready (c .before .before .before .before .before .before .before .before .args .key .now) (c .before .before .before .before .before .before .before .before .args .s .now) (c .before .before .before .before .before .before .before .before .args .at) _ _ _ (c .before .before .before .before .before .before .before .before .pre) (c .before .before .part .ensures .0) (c .before .part2 .ensures .0) (c .part3 .ensures .0)
 
 links-requires : tie.Need-links-requires
 links-requires c κs = search needs
@@ -43,13 +43,13 @@ same-length : tie.Need-same-length
 same-length c = search needs
 
 returns : tie.Need-returns
-returns c = moved (narrow-right-tag (c .before .before .before .before .before .before .before .before .before .before .before .before .before .before .before .before .before .args .key .now) (c .before .before .before .before .before .before .before .before .before .before .before .before .before .before .before .before .before .args .s .now) (c .before .before .before .before .before .before .before .before .before .before .before .before .before .before .before .before .before .args .at) (c .before .before .before .before .before .before .before .before .before .before .before .before .before .before .before .before .before .args .caveats .now) (c .before .before .before .before .before .before .before .before .before .before .before .before .before .before .before .before .before .args .caveat .now) (c .before .before .before .before .before .before .before .before .before .before .before .part .ensures) (c .before .before .before .before .before .before .before .before .before .before .part2 .ensures) (c .before .before .before .before .before .before .before .before .before .part3 .ensures) (c .before .before .before .before .before .before .before .before .first-link .ensures) (c .before .before .before .before .before .before .before .links .ensures) (c .before .before .before .before .before .before .run .ensures) (sym (c .before .before .before .before .before .same-tag .ensures) ∙ c .before .before .before .before .if1 .taken)) (c .before .before .add-caveat .ensures)
+returns c = moved (narrow-right-tag (c .before .before .before .before .before .before .before .before .before .before .before .before .before .before .before .before .before .args .key .now) (c .before .before .before .before .before .before .before .before .before .before .before .before .before .before .before .before .before .args .s .now) (c .before .before .before .before .before .before .before .before .before .before .before .before .before .before .before .before .before .args .at) (c .before .before .before .before .before .before .before .before .before .before .before .before .before .before .before .before .before .args .caveats .now) (c .before .before .before .before .before .before .before .before .before .before .before .before .before .before .before .before .before .args .caveat .now) (c .before .before .before .before .before .before .before .before .before .before .before .part .ensures .0) (c .before .before .before .before .before .before .before .before .before .before .part2 .ensures .0) (c .before .before .before .before .before .before .before .before .before .part3 .ensures .0) (c .before .before .before .before .before .before .before .before .first-link .ensures) (c .before .before .before .before .before .before .before .links .ensures) (c .before .before .before .before .before .before .run .ensures .0) (sym (c .before .before .before .before .before .same-tag .ensures) ∙ c .before .before .before .before .if1 .taken)) (c .before .before .add-caveat .ensures)
 
 refusal-requires : tie.Need-refusal-requires
 refusal-requires c κs = search needs
 
 returns-2 : tie.Need-returns-2
-returns-2 c = moved (narrow-other-tag (c .before .before .before .before .before .before .before .before .before .before .before .before .before .before .args .key .now) (c .before .before .before .before .before .before .before .before .before .before .before .before .before .before .args .s .now) (c .before .before .before .before .before .before .before .before .before .before .before .before .before .before .args .at) (c .before .before .before .before .before .before .before .before .before .before .before .before .before .before .args .caveats .now) (c .before .before .before .before .before .before .before .before .before .before .before .before .before .before .args .caveat .now) (c .before .before .before .before .before .before .before .before .part .ensures) (c .before .before .before .before .before .before .before .part2 .ensures) (c .before .before .before .before .before .before .part3 .ensures) (c .before .before .before .before .before .first-link .ensures) (c .before .before .before .before .links .ensures) (c .before .before .before .run .ensures) (sym (c .before .before .same-tag .ensures) ∙ c .before .if1 .left)) (refused-is (c .refusal .ensures))
+returns-2 c = moved (narrow-other-tag (c .before .before .before .before .before .before .before .before .before .before .before .before .before .before .args .key .now) (c .before .before .before .before .before .before .before .before .before .before .before .before .before .before .args .s .now) (c .before .before .before .before .before .before .before .before .before .before .before .before .before .before .args .at) (c .before .before .before .before .before .before .before .before .before .before .before .before .before .before .args .caveats .now) (c .before .before .before .before .before .before .before .before .before .before .before .before .before .before .args .caveat .now) (c .before .before .before .before .before .before .before .before .part .ensures .0) (c .before .before .before .before .before .before .before .part2 .ensures .0) (c .before .before .before .before .before .before .part3 .ensures .0) (c .before .before .before .before .before .first-link .ensures) (c .before .before .before .before .links .ensures) (c .before .before .before .run .ensures .0) (sym (c .before .before .same-tag .ensures) ∙ c .before .if1 .left)) (refused-is (c .refusal .ensures))
 
 pub narrow-with-spec : {M : Type 1} → statement M
 narrow-with-spec =

@@ -17,7 +17,7 @@ same-length : tie.Need-same-length
 same-length c = search needs
 
 returns : tie.Need-returns
-returns c = rw (sym (c .before .before .before .before .lookup .ensures)) (c .before .before .put .ensures)
+returns c = rw (sym (c .before .before .before .before .lookup .ensures .0)) (c .before .before .put .ensures)
 
 pub probe-lookup-spec : {M : Type 1} → statement M
 probe-lookup-spec = tie.close (tie.spec lookup-requires put-requires same-length returns)

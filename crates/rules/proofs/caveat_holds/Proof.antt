@@ -112,15 +112,15 @@ returns-3 c = rw (c .before .before .caveat2 .given .1) (c .within-skew2 .ensure
 
 returns-4 : tie.Need-returns-4
 unfolding caveatHeld amnesiaHeld
-returns-4 c = rw (c .before .before .before .caveat3 .given .1) (c .audience-is .ensures ∙ ap (audienceIs _ _) (c .before .part .ensures))
+returns-4 c = rw (c .before .before .before .caveat3 .given .1) (c .audience-is .ensures ∙ ap (audienceIs _ _) (c .before .part .ensures .0))
 
 returns-5 : tie.Need-returns-5
 unfolding caveatHeld amnesiaHeld
-returns-5 c = rw (c .before .before .before .caveat4 .given .1) (rw (c .before .part2 .ensures) at (c .method-in .ensures))
+returns-5 c = rw (c .before .before .before .caveat4 .given .1) (rw (c .before .part2 .ensures .0) at (c .method-in .ensures))
 
 returns-6 : tie.Need-returns-6
 unfolding caveatHeld amnesiaHeld
-returns-6 c = rw (c .before .before .before .before .caveat5 .given .1) (c .fits2 .ensures ∙ ap₂ fitsOf (c .before .before .part3 .ensures) (c .before .part4 .ensures))
+returns-6 c = rw (c .before .before .before .before .caveat5 .given .1) (c .fits2 .ensures ∙ ap₂ fitsOf (c .before .before .part3 .ensures .0) (c .before .part4 .ensures .0))
 
 returns-7 : tie.Need-returns-7
 unfolding caveatHeld amnesiaHeld
@@ -136,7 +136,7 @@ returns-9 c = rw (c .before .before .caveat8 .given .1) (c .rate-holds .ensures)
 
 returns-10 : tie.Need-returns-10
 unfolding caveatHeld amnesiaHeld
-returns-10 c = rw (c .before .before .before .caveat9 .given .1) (rw (c .before .part5 .ensures) at (c .same .ensures))
+returns-10 c = rw (c .before .before .before .caveat9 .given .1) (rw (c .before .part5 .ensures .0) at (c .same .ensures))
 
 returns-11 : tie.Need-returns-11
 unfolding caveatHeld amnesiaHeld
@@ -144,7 +144,7 @@ returns-11 c = rw (c .before .before .caveat10 .given .1, c .if1 .left)
 
 returns-12 : tie.Need-returns-12
 unfolding caveatHeld amnesiaHeld
-returns-12 c = rw (c .before .before .before .caveat11 .given .1) (c .digest-is .ensures ∙ ap (digestIs _ _) (c .before .part6 .ensures))
+returns-12 c = rw (c .before .before .before .caveat11 .given .1) (c .digest-is .ensures ∙ ap (digestIs _ _) (c .before .part6 .ensures .0))
 
 returns-13 : tie.Need-returns-13
 unfolding caveatHeld amnesiaHeld

@@ -1,9 +1,8 @@
 use mathlib.Core.Path.{_≡_, sym, _∙_}
 use native.Mathlib.Omega.{arith}
 use borrow.Author.Needs.{needs}
-use Rattle.tables.specs.Reading.{findFrom}
 use Rattle.tables.proofs.Rows.{row-read}
-use Rattle.tables.proofs.Walks.{find-none, find-here, find-on}
+use Rattle.tables.proofs.Walks.{Finds, ends-none, hands-none, hands-key, finds-on}
 use Rattle.tables.proofs.find.Statement.{statement}
 use Rattle.tables.proofs.find.Tie as tie
 use Rattle.tables.proofs.find.Reads as reads
@@ -12,7 +11,7 @@ use Rattle.tables.proofs.row_at.Reads as row-at-reads
 use Rattle.tables.proofs.same_ids.Reads as same-ids-reads
 
 abbrev Inv-loop : tie.InvT-loop
-Inv-loop table tid kid rows₀ p₀ rows p = findFrom rows table tid kid p ≡ findFrom 64 table tid kid 0
+Inv-loop table tid kid rows₀ p₀ rows p = Finds table tid kid rows p
 
 abbrev μ-loop : tie.MeasureT-loop
 μ-loop table tid kid rows₀ p₀ rows p = rows
@@ -36,7 +35,7 @@ part-result-end : tie.Need-part-result-end Inv-loop μ-loop
 part-result-end c = search needs
 
 returns : tie.Need-returns Inv-loop μ-loop
-returns c = find-none (c .before .before .before .before .before .loop .rows) _ _ _ _ (c .before .before .before .before .loop-test .taken) (sym (c .before .before .before .row-at .ensures) ∙ c .before .enum-told .given .1) ∙ c .before .before .before .before .before .loop .inv
+returns c = hands-none _ _ _ _ _ (c .before .before .before .before .before .loop .inv) _ (c .before .before .before .before .loop-test .taken) (sym (c .before .before .before .row-at .ensures) ∙ c .before .enum-told .given .1)
 
 enum-known-t : tie.Need-enum-known-t Inv-loop μ-loop
 enum-known-t c = search needs
@@ -72,7 +71,7 @@ part-result-end-2 : tie.Need-part-result-end-2 Inv-loop μ-loop
 part-result-end-2 c = row-read (c .before .before .before .before .before .before .before .before .before .before .before .before .before .args .table .now) (λ i. c .before .before .before .before .before .before .before .before .before .before .before .before .shared-slice-known .given i .fits) _ _ _ _ _ _ (sym (c .before .before .before .before .before .before .before .row-at .ensures) ∙ c .before .before .before .before .before .t .given .1) .inside
 
 returns-2 : tie.Need-returns-2 Inv-loop μ-loop
-returns-2 c = find-here (c .before .before .before .before .before .before .before .before .before .before .loop .rows) _ _ _ _ (c .before .before .before .before .before .before .before .before .before .loop-test .taken) (sym (c .before .before .before .before .before .before .before .before .row-at .ensures) ∙ c .before .before .before .before .before .before .t .given .1) (sym (c .before .before .same-ids .ensures) ∙ c .before .if1 .taken) ∙ c .before .before .before .before .before .before .before .before .before .before .loop .inv
+returns-2 c = hands-key _ _ _ _ _ (c .before .before .before .before .before .before .before .before .before .before .loop .inv) _ (c .before .before .before .before .before .before .before .before .before .loop-test .taken) (sym (c .before .before .before .before .before .before .before .before .row-at .ensures) ∙ c .before .before .before .before .before .before .t .given .1) (sym (c .before .before .same-ids .ensures) ∙ c .before .if1 .taken)
 
 sub-rows : tie.Need-sub-rows Inv-loop μ-loop
 sub-rows c = search needs
@@ -81,7 +80,7 @@ loop-less : tie.Need-loop-less Inv-loop μ-loop
 loop-less c = search needs
 
 loop-again : tie.Need-loop-again Inv-loop μ-loop
-loop-again c = find-on (c .before .before .before .before .before .before .before .before .before .loop .rows) _ _ _ _ (c .before .before .before .before .before .before .before .before .loop-test .taken) (sym (c .before .before .before .before .before .before .before .row-at .ensures) ∙ c .before .before .before .before .before .t .given .1) (sym (c .before .same-ids .ensures) ∙ c .if1 .left) ∙ c .before .before .before .before .before .before .before .before .before .loop .inv
+loop-again c = finds-on _ _ _ _ _ (c .before .before .before .before .before .before .before .before .before .loop .inv) (0, 0) (c .before .before .before .before .before .before .before .before .loop-test .taken) (sym (c .before .before .before .before .before .before .before .row-at .ensures) ∙ c .before .before .before .before .before .t .given .1) (sym (c .before .same-ids .ensures) ∙ c .if1 .left)
 
 sub-result-3 : tie.Need-sub-result-3 Inv-loop μ-loop
 sub-result-3 c = search needs
@@ -93,8 +92,7 @@ part-result-end-3 : tie.Need-part-result-end-3 Inv-loop μ-loop
 part-result-end-3 c = search needs
 
 returns-3 : tie.Need-returns-3 Inv-loop μ-loop
-unfolding findFrom
-returns-3 c = let z : c .before .before .loop .rows ≡ 0 = omega arith in rw z at (c .before .before .loop .inv)
+returns-3 c = let z : c .before .before .loop .rows ≡ 0 = omega arith in ends-none _ _ _ _ _ (c .before .before .loop .inv) _ z
 
 pub find-spec : {M : Type 1} → statement M
 find-spec =

@@ -1,6 +1,6 @@
 use mathlib.Core.Path.{sym, _∙_}
 use borrow.Author.Needs.{needs}
-use Rattle.tables.specs.Reading.{lookupOf}
+use Rattle.tables.specs.Reading.{lookupOf, lookupPlace}
 use Rattle.tables.proofs.lookup.Statement.{statement}
 use Rattle.tables.proofs.lookup.Tie as tie
 use Rattle.tables.proofs.lookup.Reads as reads
@@ -15,7 +15,7 @@ find-requires : tie.Need-find-requires
 find-requires c κs = search needs
 
 returns : tie.Need-returns
-unfolding lookupOf
+unfolding lookupOf lookupPlace
 returns c = rw (sym (c .before .before .table-ok .ensures) ∙ c .before .if1 .taken) (c .find .ensures)
 
 sub-result : tie.Need-sub-result
@@ -28,8 +28,8 @@ part-result-end : tie.Need-part-result-end
 part-result-end c = search needs
 
 returns-2 : tie.Need-returns-2
-unfolding lookupOf
-returns-2 c = rw (sym (c .before .before .table-ok .ensures) ∙ c .before .if1 .left)
+unfolding lookupOf lookupPlace
+returns-2 c = let e = sym (c .before .before .table-ok .ensures) ∙ c .before .if1 .left in (rw e, rw e)
 
 pub lookup-spec : {M : Type 1} → statement M
 lookup-spec =

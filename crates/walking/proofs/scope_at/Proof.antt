@@ -33,7 +33,7 @@ returns c = rw (sym (c .before .before .before .read-scope .ensures) ∙ c .befo
 
 returns-2 : tie.Need-returns-2
 unfolding scopeAt
-returns-2 c = rw (sym (c .before .before .before .before .before .before .read-scope .ensures) ∙ c .before .before .before .before .prefix .given .1) (rw (c .before .before .part .ensures, c .before .part2 .ensures) at (c .scope-answer .ensures))
+returns-2 c = rw (sym (c .before .before .before .before .before .before .read-scope .ensures) ∙ c .before .before .before .before .prefix .given .1) (rw (c .before .before .part .ensures .0, c .before .part2 .ensures .0) at (c .scope-answer .ensures))
 
 pub scope-at-spec : {M : Type 1} → statement M
 scope-at-spec =

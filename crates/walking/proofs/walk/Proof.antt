@@ -48,7 +48,7 @@ part-requires : tie.Need-part-requires Inv-loop μ-loop
 part-requires c κs = search needs
 
 next-link-requires : tie.Need-next-link-requires Inv-loop μ-loop
-next-link-requires c κs = piece-next (c .before .before .before .before .before .before .before .before .before .before .before .before .before .args .key .now) (c .before .before .before .before .before .before .before .before .before .before .before .before .before .args .s .now) _ (c .before .before .before .before .before .before .least .result) (c .before .before .caveat .given .0 .1 .0) (c .before .before .before .before .before .before .before .before .before .before .before .before .before .pre) (c .part2 .ensures)
+next-link-requires c κs = piece-next (c .before .before .before .before .before .before .before .before .before .before .before .before .before .args .key .now) (c .before .before .before .before .before .before .before .before .before .before .before .before .before .args .s .now) _ (c .before .before .before .before .before .before .least .result) (c .before .before .caveat .given .0 .1 .0) (c .before .before .before .before .before .before .before .before .before .before .before .before .before .pre) (c .part2 .ensures .0)
 
 so-far-requires : tie.Need-so-far-requires Inv-loop μ-loop
 so-far-requires c κs = search needs
@@ -63,7 +63,7 @@ loop-less : tie.Need-loop-less Inv-loop μ-loop
 loop-less c = search needs
 
 loop-again : tie.Need-loop-again Inv-loop μ-loop
-loop-again c = walk-one (c .before .before .before .before .before .before .before .before .before .before .before .before .before .before .before .args .s .now) (c .before .before .before .before .before .before .before .before .before .before .before .before .before .before .before .args .key .now) (c .before .before .before .before .before .before .before .before .before .before .before .before .before .before .before .args .body .now) (c .before .before .before .before .before .before .before .before .before .before .before .before .before .before .before .args .asked) (c .before .before .before .before .before .before .before .before .before .before .before .before .before .before .before .args .tid .now) (c .before .before .before .before .before .before .before .before .before .before .before .before .before .before .before .args .from) (c .before .before .before .before .before .before .before .before .before .before .before .before .before .before .before .args .count) (c .before .before .before .before .before .before .before .before .before .before .before .before .before .before .before .args .first) (c .before .before .before .before .before .before .before .before .before .before .loop .p) (c .before .before .before .before .before .before .before .before .before .before .loop .k) (c .before .before .before .before .before .before .before .before .before .before .loop .link) (c .before .before .before .before .before .before .before .before .before .before .loop .answer) (c .before .before .before .before .before .before .before .before .before .before .loop .inv) (c .before .before .before .before .before .before .before .before .before .loop-test .taken) _ (c .before .before .before .before .before .before .before .before .least .ensures) (sym (c .before .before .before .before .before .before .read-caveat .ensures) ∙ c .before .before .before .before .caveat .given .1) (c .before .before .before .before .before .before .before .before .before .before .before .before .before .before .before .good .0 .0) (c .before .before .part2 .ensures) (c .before .next-link .ensures) (c .so-far .ensures)
+loop-again c = walk-one (c .before .before .before .before .before .before .before .before .before .before .before .before .before .before .before .args .s .now) (c .before .before .before .before .before .before .before .before .before .before .before .before .before .before .before .args .key .now) (c .before .before .before .before .before .before .before .before .before .before .before .before .before .before .before .args .body .now) (c .before .before .before .before .before .before .before .before .before .before .before .before .before .before .before .args .asked) (c .before .before .before .before .before .before .before .before .before .before .before .before .before .before .before .args .tid .now) (c .before .before .before .before .before .before .before .before .before .before .before .before .before .before .before .args .from) (c .before .before .before .before .before .before .before .before .before .before .before .before .before .before .before .args .count) (c .before .before .before .before .before .before .before .before .before .before .before .before .before .before .before .args .first) (c .before .before .before .before .before .before .before .before .before .before .loop .p) (c .before .before .before .before .before .before .before .before .before .before .loop .k) (c .before .before .before .before .before .before .before .before .before .before .loop .link) (c .before .before .before .before .before .before .before .before .before .before .loop .answer) (c .before .before .before .before .before .before .before .before .before .before .loop .inv) (c .before .before .before .before .before .before .before .before .before .loop-test .taken) _ (c .before .before .before .before .before .before .before .before .least .ensures) (sym (c .before .before .before .before .before .before .read-caveat .ensures) ∙ c .before .before .before .before .caveat .given .1) (c .before .before .before .before .before .before .before .before .before .before .before .before .before .before .before .good .0 .0) (c .before .before .part2 .ensures .0) (c .before .next-link .ensures) (c .so-far .ensures)
 
 returns-2 : tie.Need-returns-2 Inv-loop μ-loop
 returns-2 c = walked-all (c .before .before .before .before .before .before .args .s .now) (c .before .before .before .before .before .before .args .key .now) (c .before .before .before .before .before .before .args .body .now) (c .before .before .before .before .before .before .args .asked) (c .before .before .before .before .before .before .args .tid .now) (c .before .before .before .before .before .before .args .from) (c .before .before .before .before .before .before .args .count) (c .before .before .before .before .before .before .args .first) (c .before .loop .p) (c .before .loop .k) (c .before .loop .link) (c .before .loop .answer) (c .before .loop .inv) (c .loop-test .left)

@@ -23,7 +23,7 @@ part-requires-3 : tie.Need-part-requires-3
 part-requires-3 c κs = search needs
 
 first-link-requires : tie.Need-first-link-requires
-first-link-requires c κs = first-ready (c .before .before .before .before .before .before .before .args .key .now) (c .before .before .before .before .before .before .before .args .s .now) (c .before .before .before .before .before .before .before .args .at) _ _ _ (c .before .before .before .before .before .before .before .pre) (c .before .before .part .ensures) (c .before .part2 .ensures) (c .part3 .ensures)
+first-link-requires c κs = first-ready (c .before .before .before .before .before .before .before .args .key .now) (c .before .before .before .before .before .before .before .args .s .now) (c .before .before .before .before .before .before .before .args .at) _ _ _ (c .before .before .before .before .before .before .before .pre) (c .before .before .part .ensures .0) (c .before .part2 .ensures .0) (c .part3 .ensures .0)
 
 walk-requires : tie.Need-walk-requires
 walk-requires c κs = search needs
@@ -41,16 +41,16 @@ scope-at-requires : tie.Need-scope-at-requires
 scope-at-requires c κs = search needs
 
 returns : tie.Need-returns
-returns c = scope-holds (c .before .before .before .before .before .before .before .before .before .before .before .before .before .before .before .before .before .args .key .now) (c .before .before .before .before .before .before .before .before .before .before .before .before .before .before .before .before .before .args .s .now) (c .before .before .before .before .before .before .before .before .before .before .before .before .before .before .before .before .before .args .at) (c .before .before .before .before .before .before .before .before .before .before .before .before .before .before .before .before .before .args .body .now) (c .before .before .before .before .before .before .before .before .before .before .before .before .before .before .before .before .before .args .asked) (c .before .before .before .before .before .before .before .before .before .before .before .before .before .before .before .before .before .args .tenant .now) (c .before .before .before .before .before .before .before .before .before .before .before .before .part .ensures) (c .before .before .before .before .before .before .before .before .before .before .before .part2 .ensures) (c .before .before .before .before .before .before .before .before .before .before .part3 .ensures) (c .before .before .before .before .before .before .before .before .before .first-link .ensures) (c .before .before .before .before .before .before .before .before .walk .ensures) (c .before .before .before .before .before .before .run .ensures) (sym (c .before .before .before .before .before .same-tag .ensures) ∙ c .before .before .before .if1 .taken) (sym (c .before .before .before .before .same .ensures) ∙ c .before .before .if2 .taken) (c .before .scope-at .ensures) (c .if3 .taken)
+returns c = scope-holds (c .before .before .before .before .before .before .before .before .before .before .before .before .before .before .before .before .before .args .key .now) (c .before .before .before .before .before .before .before .before .before .before .before .before .before .before .before .before .before .args .s .now) (c .before .before .before .before .before .before .before .before .before .before .before .before .before .before .before .before .before .args .at) (c .before .before .before .before .before .before .before .before .before .before .before .before .before .before .before .before .before .args .body .now) (c .before .before .before .before .before .before .before .before .before .before .before .before .before .before .before .before .before .args .asked) (c .before .before .before .before .before .before .before .before .before .before .before .before .before .before .before .before .before .args .tenant .now) (c .before .before .before .before .before .before .before .before .before .before .before .before .part .ensures .0) (c .before .before .before .before .before .before .before .before .before .before .before .part2 .ensures .0) (c .before .before .before .before .before .before .before .before .before .before .part3 .ensures .0) (c .before .before .before .before .before .before .before .before .before .first-link .ensures) (c .before .before .before .before .before .before .before .before .walk .ensures) (c .before .before .before .before .before .before .run .ensures .0) (sym (c .before .before .before .before .before .same-tag .ensures) ∙ c .before .before .before .if1 .taken) (sym (c .before .before .before .before .same .ensures) ∙ c .before .before .if2 .taken) (c .before .scope-at .ensures) (c .if3 .taken)
 
 returns-2 : tie.Need-returns-2
-returns-2 c = scope-fails (c .before .before .before .before .before .before .before .before .before .before .before .before .before .before .before .before .before .args .key .now) (c .before .before .before .before .before .before .before .before .before .before .before .before .before .before .before .before .before .args .s .now) (c .before .before .before .before .before .before .before .before .before .before .before .before .before .before .before .before .before .args .at) (c .before .before .before .before .before .before .before .before .before .before .before .before .before .before .before .before .before .args .body .now) (c .before .before .before .before .before .before .before .before .before .before .before .before .before .before .before .before .before .args .asked) (c .before .before .before .before .before .before .before .before .before .before .before .before .before .before .before .before .before .args .tenant .now) (c .before .before .before .before .before .before .before .before .before .before .before .before .part .ensures) (c .before .before .before .before .before .before .before .before .before .before .before .part2 .ensures) (c .before .before .before .before .before .before .before .before .before .before .part3 .ensures) (c .before .before .before .before .before .before .before .before .before .first-link .ensures) (c .before .before .before .before .before .before .before .before .walk .ensures) (c .before .before .before .before .before .before .run .ensures) (sym (c .before .before .before .before .before .same-tag .ensures) ∙ c .before .before .before .if1 .taken) (sym (c .before .before .before .before .same .ensures) ∙ c .before .before .if2 .taken) (c .before .scope-at .ensures) (c .if3 .left)
+returns-2 c = scope-fails (c .before .before .before .before .before .before .before .before .before .before .before .before .before .before .before .before .before .args .key .now) (c .before .before .before .before .before .before .before .before .before .before .before .before .before .before .before .before .before .args .s .now) (c .before .before .before .before .before .before .before .before .before .before .before .before .before .before .before .before .before .args .at) (c .before .before .before .before .before .before .before .before .before .before .before .before .before .before .before .before .before .args .body .now) (c .before .before .before .before .before .before .before .before .before .before .before .before .before .before .before .before .before .args .asked) (c .before .before .before .before .before .before .before .before .before .before .before .before .before .before .before .before .before .args .tenant .now) (c .before .before .before .before .before .before .before .before .before .before .before .before .part .ensures .0) (c .before .before .before .before .before .before .before .before .before .before .before .part2 .ensures .0) (c .before .before .before .before .before .before .before .before .before .before .part3 .ensures .0) (c .before .before .before .before .before .before .before .before .before .first-link .ensures) (c .before .before .before .before .before .before .before .before .walk .ensures) (c .before .before .before .before .before .before .run .ensures .0) (sym (c .before .before .before .before .before .same-tag .ensures) ∙ c .before .before .before .if1 .taken) (sym (c .before .before .before .before .same .ensures) ∙ c .before .before .if2 .taken) (c .before .scope-at .ensures) (c .if3 .left)
 
 returns-3 : tie.Need-returns-3
-returns-3 c = other-tenant (c .before .before .before .before .before .before .before .before .before .before .before .before .before .before .before .args .key .now) (c .before .before .before .before .before .before .before .before .before .before .before .before .before .before .before .args .s .now) (c .before .before .before .before .before .before .before .before .before .before .before .before .before .before .before .args .at) (c .before .before .before .before .before .before .before .before .before .before .before .before .before .before .before .args .body .now) (c .before .before .before .before .before .before .before .before .before .before .before .before .before .before .before .args .asked) (c .before .before .before .before .before .before .before .before .before .before .before .before .before .before .before .args .tenant .now) (c .before .before .before .before .before .before .before .before .before .before .part .ensures) (c .before .before .before .before .before .before .before .before .before .part2 .ensures) (c .before .before .before .before .before .before .before .before .part3 .ensures) (c .before .before .before .before .before .before .before .first-link .ensures) (c .before .before .before .before .before .before .walk .ensures) (c .before .before .before .before .run .ensures) (sym (c .before .before .before .same-tag .ensures) ∙ c .before .if1 .taken) (sym (c .before .before .same .ensures) ∙ c .if2 .left)
+returns-3 c = other-tenant (c .before .before .before .before .before .before .before .before .before .before .before .before .before .before .before .args .key .now) (c .before .before .before .before .before .before .before .before .before .before .before .before .before .before .before .args .s .now) (c .before .before .before .before .before .before .before .before .before .before .before .before .before .before .before .args .at) (c .before .before .before .before .before .before .before .before .before .before .before .before .before .before .before .args .body .now) (c .before .before .before .before .before .before .before .before .before .before .before .before .before .before .before .args .asked) (c .before .before .before .before .before .before .before .before .before .before .before .before .before .before .before .args .tenant .now) (c .before .before .before .before .before .before .before .before .before .before .part .ensures .0) (c .before .before .before .before .before .before .before .before .before .part2 .ensures .0) (c .before .before .before .before .before .before .before .before .part3 .ensures .0) (c .before .before .before .before .before .before .before .first-link .ensures) (c .before .before .before .before .before .before .walk .ensures) (c .before .before .before .before .run .ensures .0) (sym (c .before .before .before .same-tag .ensures) ∙ c .before .if1 .taken) (sym (c .before .before .same .ensures) ∙ c .if2 .left)
 
 returns-4 : tie.Need-returns-4
-returns-4 c = other-tag (c .before .before .before .before .before .before .before .before .before .before .before .before .before .before .args .key .now) (c .before .before .before .before .before .before .before .before .before .before .before .before .before .before .args .s .now) (c .before .before .before .before .before .before .before .before .before .before .before .before .before .before .args .at) (c .before .before .before .before .before .before .before .before .before .before .before .before .before .before .args .body .now) (c .before .before .before .before .before .before .before .before .before .before .before .before .before .before .args .asked) (c .before .before .before .before .before .before .before .before .before .before .before .before .before .before .args .tenant .now) (c .before .before .before .before .before .before .before .before .before .part .ensures) (c .before .before .before .before .before .before .before .before .part2 .ensures) (c .before .before .before .before .before .before .before .part3 .ensures) (c .before .before .before .before .before .before .first-link .ensures) (c .before .before .before .before .before .walk .ensures) (c .before .before .before .run .ensures) (sym (c .before .before .same-tag .ensures) ∙ c .if1 .left)
+returns-4 c = other-tag (c .before .before .before .before .before .before .before .before .before .before .before .before .before .before .args .key .now) (c .before .before .before .before .before .before .before .before .before .before .before .before .before .before .args .s .now) (c .before .before .before .before .before .before .before .before .before .before .before .before .before .before .args .at) (c .before .before .before .before .before .before .before .before .before .before .before .before .before .before .args .body .now) (c .before .before .before .before .before .before .before .before .before .before .before .before .before .before .args .asked) (c .before .before .before .before .before .before .before .before .before .before .before .before .before .before .args .tenant .now) (c .before .before .before .before .before .before .before .before .before .part .ensures .0) (c .before .before .before .before .before .before .before .before .part2 .ensures .0) (c .before .before .before .before .before .before .before .part3 .ensures .0) (c .before .before .before .before .before .before .first-link .ensures) (c .before .before .before .before .before .walk .ensures) (c .before .before .before .run .ensures .0) (sym (c .before .before .same-tag .ensures) ∙ c .if1 .left)
 
 pub with-key-spec : {M : Type 1} → statement M
 with-key-spec =
