@@ -1,5 +1,5 @@
 // The entry points that the firmware calls. Each takes any bytes and asks nothing of them; what they promise
-// is proved to be what the demands say (proofs/Demands.antt).
+// is proved to be what the demands say (specs/Demands.antt).
 use handing::Outcome;
 ghost use mathlib.Core.Path.{_≡_};
 ghost use Rattle.judging.specs.Verifying.{verifyOf};
