@@ -3,8 +3,11 @@ use mathlib.Core.Path.{_≡_, refl, ap, subst, _∙_}
 use mathlib.Core.List.{List, [], _∷_, _++_}
 use Prim.Native.Nat.{ℕ, _+_, _-_, _*_, _≤_, _<_}
 use native.Mathlib.Omega.{arith}
+use borrow.Author.Tests.{leb-true}
+use lib.Dec.{leb}
 use lib.ListN.{length, take, drop, getD}
 use Rattle.basis.specs.Basis.{ascii, Written}
+use Rattle.basis.proofs.All.{all, all-at}
 use Rattle.answers.specs.Answers.{numberOf, nameOf}
 use Rattle.answers.specs.Rows.{rowOf}
 use Rattle.answers.specs.declared.Answer.{Answer}
@@ -116,6 +119,14 @@ in-row HashBad = record { low = omega arith; long = refl; short = omega arith; t
 
 pub told-row : (a : Answer) {n row : ℕ} → n ≡ numberOf a → row ≡ rowOf n → InRow a row
 told-row a p q = rw (q, p) (in-row a)
+
+-- no name is shorter than "allow"
+pub name-long : (a : Answer) → 5 ≤ length (nameOf a)
+unfolding all
+name-long a =
+    let f = in-row a in
+    let row = rowOf (numberOf a) in
+    rw (f .long) at (leb-true 5 (getD lengths row 0) (all-at 29 (λ n. leb 5 (getD lengths n 0)) refl row (f .low)))
 
 past : (i n : ℕ) → i + n - i ≡ n
 past i n = omega arith

@@ -5,6 +5,8 @@ use Prim.Native.Nat.{ℕ}
 use lib.Dec.{eqb}
 use Rattle.basis.specs.Basis.{pick, ascii}
 use Rattle.answers.specs.declared.Answer.{Answer}
+use Rattle.answers.specs.declared.Listed.{Listed}
+use Rattle.answers.specs.declared.Listed.the-variants.{Of, Free}
 use Rattle.answers.specs.declared.Answer.the-variants.{
   Allow,
   TableBad,
@@ -105,10 +107,10 @@ abbrev pub list : List Answer
 list =
     Allow ∷ TableBad ∷ CtxBad ∷ ParseB64 ∷ ParseCbor ∷ ParseBounds ∷ SchemaUnknownField ∷ KidUnknown ∷ MacMismatch ∷ TenantMismatch ∷ CaveatMethod ∷ CaveatPath ∷ CaveatBytes ∷ CaveatExp ∷ CaveatNbf ∷ CaveatAud ∷ CaveatIp ∷ CaveatRate ∷ CaveatTenant ∷ CaveatAmnesia ∷ CaveatPolicyDigest ∷ CaveatCustomUnknown ∷ CavCbor ∷ CavBounds ∷ CavUnknown ∷ CavFull ∷ SizeFull ∷ OutShort ∷ HashBad ∷ []
 
--- the one with this number; a number that no answer has is told as the last
-abbrev pub withNumber : ℕ → List Answer → Answer
-withNumber n [] = HashBad
-withNumber n (a ∷ rest) = pick (eqb n (numberOf a)) a (withNumber n rest)
+-- the one with this number; `Free`: no answer has it
+abbrev pub withNumber : ℕ → List Answer → Listed
+withNumber n [] = Free
+withNumber n (a ∷ rest) = pick (eqb n (numberOf a)) (Of a) (withNumber n rest)
 
-unfoldable pub answerOf : ℕ → Answer
+unfoldable pub answerOf : ℕ → Listed
 answerOf n = withNumber n list

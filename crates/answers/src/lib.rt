@@ -36,6 +36,12 @@ pub enum Answer {
     HashBad,
 }
 
+// What a number stands for: an answer, or nothing, where no answer has this number.
+pub enum Listed {
+    Of(Answer),
+    Free,
+}
+
 // The names in the order of the list, each in a row as long as the longest.
 const NAMES: [u8; 609] = *b"allow                \
                             table.bad            \
@@ -135,40 +141,41 @@ pub fn number(a: Answer) -> u32
     }
 }
 
-// The answer that a number stands for.
-pub fn answer_of(n: u32) -> Answer
+// The answer that has this number.
+pub fn answer_of(n: u32) -> Listed
     ensures { λ r. ⌜ r ≡ answerOf n ⌝ }
 {
     match n {
-        0 => Answer::Allow,
-        1 => Answer::TableBad,
-        2 => Answer::CtxBad,
-        3 => Answer::ParseB64,
-        4 => Answer::ParseCbor,
-        5 => Answer::ParseBounds,
-        6 => Answer::SchemaUnknownField,
-        7 => Answer::KidUnknown,
-        8 => Answer::MacMismatch,
-        9 => Answer::TenantMismatch,
-        10 => Answer::CaveatMethod,
-        11 => Answer::CaveatPath,
-        12 => Answer::CaveatBytes,
-        13 => Answer::CaveatExp,
-        14 => Answer::CaveatNbf,
-        15 => Answer::CaveatAud,
-        16 => Answer::CaveatIp,
-        17 => Answer::CaveatRate,
-        18 => Answer::CaveatTenant,
-        19 => Answer::CaveatAmnesia,
-        20 => Answer::CaveatPolicyDigest,
-        21 => Answer::CaveatCustomUnknown,
-        31 => Answer::CavCbor,
-        32 => Answer::CavBounds,
-        33 => Answer::CavUnknown,
-        34 => Answer::CavFull,
-        35 => Answer::SizeFull,
-        36 => Answer::OutShort,
-        _ => Answer::HashBad,
+        0 => Listed::Of(Answer::Allow),
+        1 => Listed::Of(Answer::TableBad),
+        2 => Listed::Of(Answer::CtxBad),
+        3 => Listed::Of(Answer::ParseB64),
+        4 => Listed::Of(Answer::ParseCbor),
+        5 => Listed::Of(Answer::ParseBounds),
+        6 => Listed::Of(Answer::SchemaUnknownField),
+        7 => Listed::Of(Answer::KidUnknown),
+        8 => Listed::Of(Answer::MacMismatch),
+        9 => Listed::Of(Answer::TenantMismatch),
+        10 => Listed::Of(Answer::CaveatMethod),
+        11 => Listed::Of(Answer::CaveatPath),
+        12 => Listed::Of(Answer::CaveatBytes),
+        13 => Listed::Of(Answer::CaveatExp),
+        14 => Listed::Of(Answer::CaveatNbf),
+        15 => Listed::Of(Answer::CaveatAud),
+        16 => Listed::Of(Answer::CaveatIp),
+        17 => Listed::Of(Answer::CaveatRate),
+        18 => Listed::Of(Answer::CaveatTenant),
+        19 => Listed::Of(Answer::CaveatAmnesia),
+        20 => Listed::Of(Answer::CaveatPolicyDigest),
+        21 => Listed::Of(Answer::CaveatCustomUnknown),
+        31 => Listed::Of(Answer::CavCbor),
+        32 => Listed::Of(Answer::CavBounds),
+        33 => Listed::Of(Answer::CavUnknown),
+        34 => Listed::Of(Answer::CavFull),
+        35 => Listed::Of(Answer::SizeFull),
+        36 => Listed::Of(Answer::OutShort),
+        37 => Listed::Of(Answer::HashBad),
+        _ => Listed::Free,
     }
 }
 

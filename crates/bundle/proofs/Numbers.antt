@@ -1,138 +1,56 @@
--- Verify's number is one of those from 0 to 21, so that every line of a bundle has the name of its own answer.
-use mathlib.Core.Path.{_≡_, refl}
-use mathlib.Core.List.{List}
-use Prim.Native.Nat.{ℕ, zero, suc, _+_, _<_}
+-- Every line of a bundle names the answer whose number verify gives: there always is one.
+use mathlib.Core.Path.{_≡_, refl, ap, _∙_}
+use mathlib.Core.Bool.{Bool, true, false}
+use mathlib.Core.List.{List, _++_}
+use Prim.Native.Nat.{ℕ, _<_}
 use native.Mathlib.Omega.{arith}
-use borrow.Author.Tests.{eqb-true}
-use lib.Dec.{eqb, ltb}
-use lib.ListN.{length, drop}
-use Rattle.basis.specs.Basis.{between}
-use Rattle.basis.specs.Same.{sameOf}
+use lib.Dec.{eqb}
+use lib.ListN.{length}
+use Rattle.basis.specs.Basis.{pick, ascii}
 use Rattle.basis.proofs.All.{all, all-at}
-use Rattle.basis.proofs.Picks.{either}
-use Rattle.answers.specs.Answers.{numberOf}
-use Rattle.base64url.specs.Reading.{judgedOf, bytesOf, decodedOf}
-use Rattle.base64url.specs.declared.Decoded.{Decoded}
-use Rattle.base64url.specs.declared.Decoded.the-variants.{Bytes, Bad as NoText, Short}
-use Rattle.chain.specs.Chain.{nextLink}
-use Rattle.scope.specs.Reading.{scopeOf, afterScope}
-use Rattle.scope.specs.declared.ScopeParts.{ScopeParts}
-use Rattle.scope.specs.declared.ScopeParts.the-variants.{Of as ScopeIs, Bad as NoScope}
-use Rattle.scope.proofs.DefectKinds.{ScopeKind, scope-kinds}
-use Rattle.caveat.specs.Reading.{caveatOf}
-use Rattle.caveat_values.specs.declared.Caveat.{Caveat}
-use Rattle.caveat_values.specs.declared.Caveat.the-variants.{Exp, Nbf, Aud, Method, PathPrefix, IpCidr, BytesLe, Rate, Tenant, Amnesia, GovPolicyDigest, Custom}
-use Rattle.caveat_values.specs.declared.CaveatParts.{CaveatParts}
-use Rattle.caveat_values.specs.declared.CaveatParts.the-variants.{Of as CaveatIs, Bad as NoCaveat}
-use Rattle.caveat.proofs.DefectKinds.{CaveatKind, caveat-kinds}
-use Rattle.token.specs.Reading.{tokenOf}
-use Rattle.token.specs.declared.TokenParts.{TokenParts}
-use Rattle.token.specs.declared.TokenParts.the-variants.{Of as TokenIs, Bad as NoToken}
-use Rattle.token.proofs.DefectKinds.{token-kind}
-use Rattle.tables.specs.Reading.{tableOk}
-use Rattle.requests.specs.Reading.{requestOf}
-use Rattle.requests.specs.declared.RequestParts.{RequestParts}
-use Rattle.requests.specs.declared.RequestParts.the-variants.{Of as RequestIs, Bad as NoRequest}
-use Rattle.comparing.specs.Comparing.{memberAt, prefixFits, limitHolds}
-use Rattle.rules.specs.Judging.{scopeJudged, caveatHeld, failingOf, caveatJudged}
-use Rattle.rules.specs.declared.Asked.{Asked}
-use Rattle.walking.specs.Walking.{soFar, walkEnds, afterCaveat, walkedThen, walkedOf, scopeKind, scopeThen, scopeAt, tenantThen, linkFirst, keyThen}
-use Rattle.judging.specs.Verifying.{keyFound, keyOf, tokenThen, bytesThen, decodedThen, textThen, requestThen, verifyOf}
-use Rattle.walking.specs.declared.TokenAt.{TokenAt}
-use Rattle.answers.specs.Answers.{answerOf}
+use Rattle.answers.specs.Answers.{numberOf, nameOf, answerOf}
+use Rattle.answers.specs.declared.Answer.{Answer}
+use Rattle.answers.specs.declared.Listed.{Listed}
+use Rattle.answers.specs.declared.Listed.the-variants.{Of, Free}
+use Rattle.answers.proofs.Distinct.{listed-number}
+use Rattle.answers.proofs.Named.{name-long}
+use Rattle.judging.specs.Verifying.{verifyOf}
+use Rattle.judging.proofs.Numbers.{verify-low}
+use Rattle.bundle.specs.Lines.{nameIn, wordsOf}
 
-abbrev Low : ℕ → Type 0
-Low n = n < 22
+-- an answer has this number, and the words for the number are that answer's
+pub record Named (n : ℕ) : Type 0 where
+  pub answer : Answer
+  pub listed : answerOf n ≡ Of answer
+  pub numbered : numberOf answer ≡ n
+  pub words : wordsOf n ≡ pick (eqb n 0) (ascii "allow") (ascii "deny " ++ nameOf answer)
 
-so-far-low : (a b : ℕ) → Low a → Low b → Low (soFar a b)
-unfolding soFar
-so-far-low a b g h = either Low {x = b} {y = a} (eqb a 0) h g
+isOf : Listed → Bool
+isOf (Of a) = true
+isOf Free = false
 
-failing-low : (c : Caveat) → Low (failingOf c)
-unfolding failingOf
-failing-low (Exp n) = omega arith
-failing-low (Nbf n) = omega arith
-failing-low (Aud from to) = omega arith
-failing-low (Method count from to) = omega arith
-failing-low (PathPrefix from to) = omega arith
-failing-low (IpCidr a b c d n) = omega arith
-failing-low (BytesLe n) = omega arith
-failing-low (Rate per-s burst) = omega arith
-failing-low (Tenant from to) = omega arith
-failing-low (Amnesia on) = omega arith
-failing-low (GovPolicyDigest from to) = omega arith
-failing-low (Custom a b c d e f) = omega arith
-
-caveat-low : (s : List ℕ) (c : Caveat) (body : List ℕ) (q : Asked) (tid : List ℕ) → Low (caveatJudged s c body q tid)
-unfolding caveatJudged
-caveat-low s c body q tid = either Low {x = 0} {y = failingOf c} (caveatHeld s c body q tid) (omega arith) (failing-low c)
-
-walked-low : (k : ℕ) (s key body : List ℕ) (q : Asked) (tid : List ℕ) (at : ℕ) (link : List ℕ) (answer : ℕ) → Low answer
-    → Low (walkedOf k s key body q tid at link answer .answer)
-unfolding walkedOf afterCaveat
-walked-low zero s key body q tid at link answer h = h
-walked-low (suc k) s key body q tid at link answer h = by (caveatOf (drop at s)) (caveat-kinds (drop at s)) (walked-low k s key body q tid)
+named-by : (n : ℕ) → isOf (answerOf n) ≡ true → Named n
+unfolding wordsOf isOf
+named-by n = by (answerOf n) refl
   where
-    by : (c : CaveatParts) → CaveatKind c → ((p : ℕ) (l : List ℕ) (a : ℕ) → Low a → Low (walkedOf k s key body q tid p l a .answer))
-        → Low (afterCaveat (walkEnds link) (walkedThen (walkedOf k s key body q tid) (drop at s) key body q tid at link answer) c .answer)
-    by (NoCaveat kind a) g r = omega (arith, g .1)
-    by (CaveatIs c next) g r =
-        r (at + next) (nextLink key link (between (drop at s) 0 next)) (soFar answer (caveatJudged (drop at s) c body q tid))
-        (so-far-low answer (caveatJudged (drop at s) c body q tid) h (caveat-low (drop at s) c body q tid))
+    by : (x : Listed) → answerOf n ≡ x → isOf x ≡ true → Named n
+    by (Of a) e t =
+        record {
+          answer = a;
+          listed = e;
+          numbered = listed-number n e;
+          words = ap (λ (x : Listed). pick (eqb n 0) (ascii "allow") (ascii "deny " ++ nameIn x)) e;
+        }
+    by Free e t = let z : _≡_ {A = ℕ} 0 1 = cc in let z : ⊥ = omega arith in elim z [ ]
 
-scope-low : (s : List ℕ) (at : ℕ) (body : List ℕ) (q : Asked) → Low (scopeAt s at body q)
-unfolding scopeAt scopeJudged
-scope-low s at body q = by (scopeOf s at) (scope-kinds s at)
-  where
-    by : (p : ScopeParts) → ScopeKind p → Low (afterScope scopeKind (scopeThen s body q) p)
-    by (NoScope kind a) g = omega (arith, g .1)
-    by (ScopeIs prefix count from to limit next) g =
-        either Low (memberAt count s (between body (q .method) (q .«method_end»)) from)
-        (either Low (prefixFits s prefix (between body (q .path) (q .«path_end»))) (either Low {x = 0} {y = 12} (limitHolds limit (q .size)) (omega arith) (omega arith)) (omega arith)) (omega arith)
+-- what a line would say of a number that no answer has is no answer's name
+pub unnamed : (a : Answer) → nameOf a ≡ nameIn Free → ⊥
+unnamed a e = omega (arith, name-long a, ap length e)
 
-key-low : (key s : List ℕ) (p : TokenAt) (body : List ℕ) (q : Asked) (tenant : List ℕ) → Low (keyThen key s p body q tenant)
-unfolding keyThen tenantThen
-key-low key s p body q tenant =
-    let tid = between s (p .tid) (p .«tid_end») in
-    let w = walkedOf (p .count) s key body q tid (p .from) (linkFirst key s p) 0 in
-    either Low (sameOf (w .link) (between s (p .tag) (p .tag + 32)))
-    (either Low {x = soFar (scopeAt s (p .scope) body q) (w .answer)} {y = 9} (sameOf tid tenant)
-    (so-far-low (scopeAt s (p .scope) body q) (w .answer) (scope-low s (p .scope) body q) (walked-low (p .count) s key body q tid (p .from) (linkFirst key s p) 0 (omega arith)))
-    (omega arith)) (omega arith)
+-- those from 0 to 21, each tried
+low-named : (n : ℕ) → n < 22 → Named n
+unfolding all answerOf isOf
+low-named n h = named-by n (all-at 22 (λ n. isOf (answerOf n)) refl n h)
 
-bytes-low : (table s body : List ℕ) (q : Asked) (tenant : List ℕ) → Low (bytesThen table s body q tenant)
-unfolding bytesThen tokenThen keyFound
-bytes-low table s body q tenant = by (tokenOf s) refl
-  where
-    by : (p : TokenParts) → tokenOf s ≡ p → Low (tokenThen table s body q tenant p)
-    by (NoToken kind a) e = omega (arith, token-kind s e .1)
-    by (TokenIs count from to scope scope-end tag kid kid-end tid tid-end) e =
-        let p : TokenAt = record { count = count; from = from; scope = scope; «scope_end» = scope-end; tag = tag; kid = kid; «kid_end» = kid-end; tid = tid; «tid_end» = tid-end } in
-        let key = keyOf table s p in
-        either Low {x = keyThen key s p body q tenant} {y = 7} (eqb (length key) 32) (key-low key s p body q tenant) (omega arith)
-
-text-low : (table text body : List ℕ) (q : Asked) (tenant : List ℕ) → Low (textThen table text body q tenant)
-unfolding textThen decodedThen
-text-low table text body q tenant =
-    either Low {x = 5} {y = decodedThen table text body q tenant (decodedOf (judgedOf text) 4096)} (ltb 5462 (length text)) (omega arith) (by (decodedOf (judgedOf text) 4096))
-  where
-    by : (d : Decoded) → Low (decodedThen table text body q tenant d)
-    by (NoText a) = omega arith
-    by Short = omega arith
-    by (Bytes n) = bytes-low table (bytesOf text) body q tenant
-
-pub verify-low : (table request token : List ℕ) → verifyOf table request token < 22
-unfolding verifyOf requestThen
-verify-low table request token =
-    either Low {x = requestThen table request token (requestOf request)} {y = 1} (tableOk table) (by (requestOf request)) (omega arith)
-  where
-    by : (r : RequestParts) → Low (requestThen table request token r)
-    by NoRequest = omega arith
-    by (RequestIs now size skew amnesia peer digest rate method method-end path path-end tenant tenant-end audience) =
-        text-low table token request _ (between request tenant tenant-end)
-
--- the answer that a line names is the one whose number verify gives
-pub verify-named : (table request token : List ℕ) → numberOf (answerOf (verifyOf table request token)) ≡ verifyOf table request token
-unfolding all answerOf
-verify-named table request token =
-    eqb-true _ _ (all-at 22 (λ n. eqb (numberOf (answerOf n)) n) refl (verifyOf table request token) (verify-low table request token))
+pub verify-named : (table request token : List ℕ) → Named (verifyOf table request token)
+verify-named table request token = low-named (verifyOf table request token) (verify-low table request token)

@@ -7,11 +7,19 @@ use lib.Dec.{eqb, leb, ltb}
 use lib.ListN.{length}
 use Rattle.basis.specs.Basis.{pick, ascii, between, over}
 use Rattle.answers.specs.Answers.{nameOf, answerOf}
+use Rattle.answers.specs.declared.Listed.{Listed}
+use Rattle.answers.specs.declared.Listed.the-variants.{Of, Free}
 use Rattle.records.specs.Records.{afterRecord, recordAt}
 use Rattle.judging.specs.Verifying.{verifyOf}
 
+-- the name on a line. A number that no answer has would print as "?", which is no answer's name (`unnamed`); it does not arise:
+-- `verify-named` shows that verify's number is always an answer's, and that the line names that answer
+abbrev pub nameIn : Listed → List ℕ
+nameIn (Of a) = nameOf a
+nameIn Free = ascii "?"
+
 unfoldable pub wordsOf : ℕ → List ℕ
-wordsOf n = pick (eqb n 0) (ascii "allow") (ascii "deny " ++ nameOf (answerOf n))
+wordsOf n = pick (eqb n 0) (ascii "allow") (ascii "deny " ++ nameIn (answerOf n))
 
 unfoldable pub line : ℕ → List ℕ
 line n = wordsOf n ++ (0x0a ∷ [])

@@ -1,20 +1,27 @@
 // Bundles judged: tables, requests and tokens in one input, and a line for each token. Tables and requests
 // are kept as places in the input; each line is written behind the last.
+use answers::Listed;
 use records::Record;
 ghost use mathlib.Core.Path.{_≡_};
 ghost use mathlib.Core.List.{[]};
 ghost use Prim.Native.Nat.{_+_, _≤_};
 ghost use lib.ListN.{length};
-ghost use Rattle.answers.specs.Answers.{nameOf, answerOf};
+ghost use Rattle.answers.specs.Answers.{answerOf};
 ghost use Rattle.writing.specs.Placing.{Placed};
-ghost use Rattle.bundle.specs.Lines.{wordsOf, line, linesFrom, Judged};
+ghost use Rattle.bundle.specs.Lines.{nameIn, wordsOf, line, linesFrom, Judged};
 
+// The answer's name; for a number that no answer has "?", which verify never gives.
 fn put_name(room: &mut [u8], at: usize, n: u32) -> usize
-    requires { ⌜ at + length (nameOf (answerOf n)) ≤ length (now room) ⌝ }
-    ensures { λ r. ⌜ Placed (nameOf (answerOf n)) (now (room .entry)) at r (now (room .exit)) ⌝ }
+    requires { ⌜ at + length (nameIn (answerOf n)) ≤ length (now room) ⌝ }
+    ensures { λ r. ⌜ Placed (nameIn (answerOf n)) (now (room .entry)) at r (now (room .exit)) ⌝ }
 {
-    let k = answers::name(answers::answer_of(n), &mut room[at..]);
-    at + k
+    match answers::answer_of(n) {
+        Listed::Free => writing::put_at(room, at, b"?"),
+        Listed::Of(answer) => {
+            let k = answers::name(answer, &mut room[at..]);
+            at + k
+        }
+    }
 }
 
 // "allow", or "deny " and the name.

@@ -1,6 +1,6 @@
 // Runs document 01's examples that are about reading: for each a line that says how many bytes were read,
 // or the name of the first defect and its place.
-use answers::Answer;
+use answers::Listed;
 use base64url::Decoded;
 use caveat_values::Caveat;
 use caveat_values::CaveatParts;
@@ -8,20 +8,22 @@ use libc::STDOUT_FILENO;
 use scope::ScopeParts;
 use token::TokenParts;
 
-fn answer_of(kind: u32) -> Answer {
-    match kind {
-        3 => Answer::ParseB64,
-        4 => Answer::ParseCbor,
-        5 => Answer::ParseBounds,
-        _ => Answer::SchemaUnknownField,
+fn print_name(kind: u32) {
+    match answers::answer_of(kind) {
+        Listed::Free => {
+            io::write_all(STDOUT_FILENO, b"?");
+        }
+        Listed::Of(answer) => {
+            let mut room = [0u8; 32];
+            let n = answers::name(answer, &mut room);
+            let end = basis::least(n, 32);
+            io::write_all(STDOUT_FILENO, &room[..end]);
+        }
     }
 }
 
 fn print_defect(kind: u32, at: usize) {
-    let mut room = [0u8; 32];
-    let n = answers::name(answer_of(kind), &mut room);
-    let end = basis::least(n, 32);
-    io::write_all(STDOUT_FILENO, &room[..end]);
+    print_name(kind);
     io::write_all(STDOUT_FILENO, b" at ");
     io::print_decimal(STDOUT_FILENO, at as u64);
     io::write_all(STDOUT_FILENO, b"\n");

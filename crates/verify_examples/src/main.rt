@@ -6,14 +6,21 @@
 // the table's row; one example then changes a bit of it. Tokens are tenant-1's under kid-2025-10, one under
 // kid-2025-11. host/checks/tests/verify_examples.rs makes all but these two from their parts with the
 // official crate.
+use answers::Listed;
 use libc::STDOUT_FILENO;
 
 fn print_name(number: u32) {
-    let mut room = [0u8; 32];
-    let n = answers::name(answers::answer_of(number), &mut room);
-    let end = basis::least(n, 32);
-    io::write_all(STDOUT_FILENO, &room[..end]);
-    io::write_all(STDOUT_FILENO, b"\n");
+    match answers::answer_of(number) {
+        Listed::Free => {
+            io::write_all(STDOUT_FILENO, b"?");
+        }
+        Listed::Of(answer) => {
+            let mut room = [0u8; 32];
+            let n = answers::name(answer, &mut room);
+            let end = basis::least(n, 32);
+            io::write_all(STDOUT_FILENO, &room[..end]);
+        }
+    }
 }
 
 fn show(label: &[u8], table: &[u8], request: &[u8], token: &[u8]) {
@@ -23,6 +30,7 @@ fn show(label: &[u8], table: &[u8], request: &[u8], token: &[u8]) {
         io::write_all(STDOUT_FILENO, b"deny ");
     }
     print_name(number);
+    io::write_all(STDOUT_FILENO, b"\n");
 }
 
 // Under a table of one row: its body's length and kind, then tid, kid and key.

@@ -1,7 +1,7 @@
 use Rattle.basis.specs.Basis.{ascii}
-use Rattle.answers.specs.Answers.{nameOf}
 use Rattle.writing.proofs.PlacingLaws.{shorter, placed-fits, placed-then}
 use Rattle.answers.specs.Answers.{answerOf}
+use Rattle.bundle.specs.Lines.{nameIn}
 use Rattle.bundle.proofs.Putting.{allows, denies}
 use borrow.Author.Needs.{needs}
 use Rattle.bundle.proofs.put_words.Statement.{statement}
@@ -27,16 +27,16 @@ slice-aggregate-put-at-2 : tie.Need-slice-aggregate-put-at-2
 slice-aggregate-put-at-2 c = search needs
 
 put-at-requires-2 : tie.Need-put-at-requires-2
-put-at-requires-2 c κs = let a = c .before .before .before .before in shorter (ascii "deny ") (nameOf (answerOf (a .args .n))) _ _ (rw (denies _ (c .before .before .if1 .left)) at (a .pre))
+put-at-requires-2 c κs = let a = c .before .before .before .before in shorter (ascii "deny ") (nameIn (answerOf (a .args .n))) _ _ (rw (denies _ (c .before .before .if1 .left)) at (a .pre))
 
 put-name-requires : tie.Need-put-name-requires
-put-name-requires c κs = let a = c .before .before .before .before .before .before .before .before in placed-fits (ascii "deny ") (nameOf (answerOf (a .args .n))) _ _ (rw (denies _ (c .before .before .before .before .before .before .if1 .left)) at (a .pre)) (c .before .before .before .put-at2 .ensures)
+put-name-requires c κs = let a = c .before .before .before .before .before .before .before .before in placed-fits (ascii "deny ") (nameIn (answerOf (a .args .n))) _ _ (rw (denies _ (c .before .before .before .before .before .before .if1 .left)) at (a .pre)) (c .before .before .before .put-at2 .ensures)
 
 same-length-2 : tie.Need-same-length-2
 same-length-2 c = search needs
 
 returns-2 : tie.Need-returns-2
-returns-2 c = let a = c .before .before .before .before .before .before .before .before .before .before .before in rw (denies _ (c .before .before .before .before .before .before .before .before .before .if1 .left)) (placed-then (ascii "deny ") (nameOf (answerOf (a .args .n))) _ _ (rw (denies _ (c .before .before .before .before .before .before .before .before .before .if1 .left)) at (a .pre)) (c .before .before .before .before .before .before .put-at2 .ensures) (c .before .before .put-name .ensures))
+returns-2 c = let a = c .before .before .before .before .before .before .before .before .before .before .before in rw (denies _ (c .before .before .before .before .before .before .before .before .before .if1 .left)) (placed-then (ascii "deny ") (nameIn (answerOf (a .args .n))) _ _ (rw (denies _ (c .before .before .before .before .before .before .before .before .before .if1 .left)) at (a .pre)) (c .before .before .before .before .before .before .put-at2 .ensures) (c .before .before .put-name .ensures))
 
 pub put-words-spec : {M : Type 1} → statement M
 put-words-spec =
