@@ -1,4 +1,5 @@
--- From the tests on key and length to the whole answer; eight chunks are as tall a tree as any message that is taken needs.
+-- From the tests on key and length to the whole answer; eight chunks are as tall a tree as any message that is taken needs. No crate
+-- above can name this module: its law `taken` says how the hash is made.
 use mathlib.Core.Path.{_≡_, sym, ap, _∙_}
 use mathlib.Core.List.{List, _++_}
 use Prim.Native.Nat.{ℕ, zero, suc, _+_, _-_, _*_, _^_, _≤_, _<_}
@@ -10,6 +11,7 @@ use lib.ListN.{length, length-append}
 use Rattle.answers.specs.Answers.{numberOf}
 use Rattle.answers.specs.declared.Answer.the-variants.{Allow}
 use Rattle.keyed_hash.specs.declared.Hashed.{Hashed}
+use Rattle.keyed_hash.specs.declared.Inside.the-variants.{Here}
 use Rattle.chunking.specs.Chunks.{rootFlag, wordsOf}
 use Rattle.keyed_hash.specs.Tree.{bytesOf, treeOf}
 use Rattle.keyed_hash.specs.KeyedHash.{hash-is, refusedHash, hashedOf}
@@ -45,4 +47,4 @@ unfolding hashedOf
 taken key message h g a b =
     let n = length message in
     let t = any-height (wordsOf 8 key) message 0 rootFlag 3 n g (omega (arith, enough n)) in
-    rw (eq-eqb (length key) 32 h, le-ltb _ _ g, a, b ∙ ap bytesOf t ∙ sym (hash-is key message))
+    rw (eq-eqb (length key) 32 h, le-ltb _ _ g, a, b ∙ ap bytesOf t ∙ sym (hash-is Here key message))

@@ -1,4 +1,4 @@
 pub mod Spreading
 pub mod Halves
-pub mod Hashing
+mod Hashing
 pub mod OneAnswer

@@ -18,6 +18,12 @@ pub struct Hashed {
     pub bytes: [u8; 32],
 }
 
+// No code uses it. Only this crate can name it, so that only its proofs can say how the hash is made: the
+// law `hash-is` asks for one.
+enum Inside {
+    Here,
+}
+
 // 2^h chunks.
 fn chunks(h: u32) -> usize
     requires { ⌜ h < 3 ⌝ }
