@@ -78,8 +78,13 @@ impl Judge {
         }
     }
 
+    /// The words that start the program.
+    pub fn words(&self) -> Vec<OsString> {
+        std::env::var_os(RUNNER).into_iter().chain([self.program.clone().into()]).collect()
+    }
+
     fn run(&self, by: By, bundle: &[u8]) -> Output {
-        let words: Vec<OsString> = std::env::var_os(RUNNER).into_iter().chain([self.program.clone().into()]).collect();
+        let words = self.words();
         let mut command = Command::new(&words[0]);
         command.args(&words[1..]).stdout(Stdio::piped()).stderr(Stdio::piped());
         if let By::File = by {

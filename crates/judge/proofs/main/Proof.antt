@@ -1,66 +1,74 @@
-use mathlib.Core.Path.{_≡_, sym}
-use Prim.Native.Nat.{ℕ, _≤_, min}
-use native.Mathlib.Omega.{arith}
+use mathlib.Core.Path.{sym}
+use Prim.Native.Nat.{_≤_}
+use lib.ListN.{length}
 use lib.Seq.{length-take-le}
+use Rattle.judge.proofs.Turning.{came}
 use borrow.Author.Needs.{needs}
 use Rattle.judge.proofs.main.Statement.{statement}
 use Rattle.judge.proofs.main.Tie as tie
 use Rattle.judge.proofs.main.Reads as reads
 use Rattle.judge.proofs.main.Lts as lts
-use Rattle.basis.proofs.least.Reads as least-reads
-use Rattle.bundle.proofs.judge_bundle.Reads as judge-bundle-reads
-use Rattle.io.proofs.read_full.Reads as read-full-reads
 use Rattle.io.proofs.write_all.Reads as write-all-reads
+use Rattle.judge.proofs.judge_input.Reads as judge-input-reads
+use Rattle.judge.proofs.read_input.Reads as read-input-reads
+use Rattle.judge.proofs.write_lines.Reads as write-lines-reads
 
--- apart from the place that it serves, where a room of 442,368 bytes is in reach
-capped : (r k m : ℕ) → r ≡ min k 442368 → m ≡ 442368 → r ≤ m
-capped r k m e l = omega arith
+all-inside : (c : tie.After-known-told) → c .before .n .given .0 .0 ≤ length (c .before .before .before .before .read-input .last .1 .0)
+all-inside c = came _ (c .before .before .before .before .read-input .ensures) (c .before .n .given .1)
 
-slice-aggregate-read-full : tie.Need-slice-aggregate-read-full
-slice-aggregate-read-full c = search needs
+slice-aggregate-read-input : tie.Need-slice-aggregate-read-input
+slice-aggregate-read-input c = search needs
 
-read-full-requires : tie.Need-read-full-requires
-read-full-requires c κs = search needs
+read-input-requires : tie.Need-read-input-requires
+read-input-requires c κs = search needs
+
+enum-known-n : tie.Need-enum-known-n
+enum-known-n c = search needs
 
 array-share-prefix-input : tie.Need-array-share-prefix-input
-array-share-prefix-input c = search needs
+array-share-prefix-input c = all-inside c
 
-slice-aggregate-judge-bundle : tie.Need-slice-aggregate-judge-bundle
-slice-aggregate-judge-bundle c = search needs
+slice-aggregate-judge-input : tie.Need-slice-aggregate-judge-input
+slice-aggregate-judge-input c = sym (length-take-le _ _ (all-inside (c .before)))
 
-slice-aggregate-judge-bundle-2 : tie.Need-slice-aggregate-judge-bundle-2
-slice-aggregate-judge-bundle-2 c = search needs
+judge-input-requires : tie.Need-judge-input-requires
+judge-input-requires c κs = search needs
 
-judge-bundle-requires : tie.Need-judge-bundle-requires
-judge-bundle-requires c κs = search needs
-
-least-requires : tie.Need-least-requires
-least-requires c κs = search needs
-
-array-share-prefix-lines : tie.Need-array-share-prefix-lines
-array-share-prefix-lines c = capped _ _ _ (c .least .ensures) (c .before .before .judge-bundle .kept .1 .0)
+enum-told : tie.Need-enum-told
+enum-told c = search needs
 
 slice-aggregate-write-all : tie.Need-slice-aggregate-write-all
-slice-aggregate-write-all c = sym (length-take-le _ _ (omega (arith, c .before .least .ensures, c .before .before .before .judge-bundle .kept .1 .0)))
+slice-aggregate-write-all c = search needs
 
 write-all-requires : tie.Need-write-all-requires
 write-all-requires c κs = search needs
 
+slice-aggregate-write-lines : tie.Need-slice-aggregate-write-lines
+slice-aggregate-write-lines c = search needs
+
+write-lines-requires : tie.Need-write-lines-requires
+write-lines-requires c κs = search needs
+
 returns : tie.Need-returns
 returns c = search needs
+
+returns-2 : tie.Need-returns-2
+returns-2 c = search needs
 
 pub main-spec : {M : Type 1} → statement M
 main-spec =
     tie.close
     (tie.spec
-    slice-aggregate-read-full
-    read-full-requires
+    slice-aggregate-read-input
+    read-input-requires
+    enum-known-n
     array-share-prefix-input
-    slice-aggregate-judge-bundle
-    slice-aggregate-judge-bundle-2
-    judge-bundle-requires
-    least-requires
-    array-share-prefix-lines
+    slice-aggregate-judge-input
+    judge-input-requires
+    enum-told
     slice-aggregate-write-all
     write-all-requires
-    returns)
+    slice-aggregate-write-lines
+    write-lines-requires
+    returns
+    returns-2)
