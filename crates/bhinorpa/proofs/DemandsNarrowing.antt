@@ -65,9 +65,9 @@ allowed-holds rows asked text token c a = subst (AllHold rows asked) (token-one 
   where
     same : encodeToken (a .token) ≡ encodeToken token
     same =
-        sym (bytes-text (encodeToken (a .token)) (a .canonical .bytes))
+        sym (bytes-text (encodeToken (a .token)) (a .canonical .are-bytes))
         ∙ ap bytesOf (sym (a .canonical .written) ∙ c .written)
-        ∙ bytes-text (encodeToken token) (c .bytes)
+        ∙ bytes-text (encodeToken token) (c .are-bytes)
 
 pub narrowing-exact : NarrowingExact
 narrowing-exact table text bytes bt bb entry outcome exit w z =

@@ -114,7 +114,7 @@ module _ (rows : List Row) (text : List ℕ) (t : Token) (w : Canonical text t) 
     part-canonical : Canonical (textOf (part rows t before)) (part rows t before)
     part-canonical =
         let g = w .good in
-        let p = parts-bytes (length (t .caveats)) (encodeCaveats (t .caveats)) (encodeScope (t .scope)) (t .tag) (t .kid) (t .tid) (w .bytes) in
+        let p = parts-bytes (length (t .caveats)) (encodeCaveats (t .caveats)) (encodeScope (t .scope)) (t .tag) (t .kid) (t .tid) (w .are-bytes) in
         let tag = tagOf key (t .tid) (t .kid) (encodeScope (t .scope)) (caveatBytes before) in
         let few = g .few in
         record {
@@ -126,7 +126,7 @@ module _ (rows : List Row) (text : List ℕ) (t : Token) (w : Canonical text t) 
             good-kid = g .good-kid;
             good-tid = g .good-tid;
           };
-          bytes =
+          are-bytes =
               token-bytes (length before) (encodeCaveats before) (encodeScope (t .scope)) tag (t .kid) (t .tid)
               (front-bytes (encodeCaveats before) (encodeCaveats rest) (subst IsBytes laid (p .caveats-are))) (p .scope-is)
               (tag-bytes key (t .tid) (t .kid) (encodeScope (t .scope)) (caveatBytes before)) (p .kid-is) (p .tid-is);

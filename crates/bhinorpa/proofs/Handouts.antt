@@ -50,7 +50,7 @@ fresh-canonical rows gr x gx bx tid kid bt bk h =
     let s = fresh-short x tag kid tid gx l (n .good-kid) (n .good-tid) in
     record {
       good = fresh-good x tag kid tid gx l (n .good-kid) (n .good-tid);
-      bytes = subst IsBytes e (token-bytes 0 [] (encodeScope x) tag kid tid none-bytes bx (tag-bytes key tid kid (encodeScope x) []) bk bt);
+      are-bytes = subst IsBytes e (token-bytes 0 [] (encodeScope x) tag kid tid none-bytes bx (tag-bytes key tid kid (encodeScope x) []) bk bt);
       short = subst (λ (b : List ℕ). length b ≤ 4096) e (omega (arith, s));
       written = refl;
     }
@@ -75,10 +75,10 @@ child-canonical rows text t w c gc bc few s =
     let key = keyFor rows t in
     let x = encodeCaveat c in
     let tag = nextLink key (t .tag) x in
-    let p = parts-bytes (length (t .caveats)) (encodeCaveats (t .caveats)) (encodeScope (t .scope)) (t .tag) (t .kid) (t .tid) (w .bytes) in
+    let p = parts-bytes (length (t .caveats)) (encodeCaveats (t .caveats)) (encodeScope (t .scope)) (t .tag) (t .kid) (t .tid) (w .are-bytes) in
     record {
       good = child-good t c tag (w .good) gc (next-length key (t .tag) x) few;
-      bytes =
+      are-bytes =
           subst IsBytes (child-written t c tag)
           (token-bytes (length (t .caveats) + 1) (encodeCaveats (t .caveats) ++ x) (encodeScope (t .scope)) tag (t .kid) (t .tid)
           (both-bytes (encodeCaveats (t .caveats)) x (p .caveats-are) bc) (p .scope-is) (next-bytes key (t .tag) x) (p .kid-is) (p .tid-is));

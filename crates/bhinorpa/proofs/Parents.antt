@@ -100,5 +100,5 @@ unfolding narrowOf textThen decodedOf decodedThen
 narrow-canonical rows gr text t c caveat =
     let b = encodeToken t in
     let l = short-text b (c .short) in
-    rw (table-written rows gr, c .written, le-ltb 5462 (length (base64url b)) l, judged-text b (c .bytes), le-leb (length b) 4096 (c .short), bytes-text b (c .bytes))
+    rw (table-written rows gr, c .written, le-ltb 5462 (length (base64url b)) l, judged-text b (c .are-bytes), le-leb (length b) 4096 (c .short), bytes-text b (c .are-bytes))
     (parent-law rows gr t (c .good) b refl caveat)

@@ -46,7 +46,7 @@ reads-canonical text {n} j h e =
     let l : length (encodeToken (t .tree)) ≤ 4096 = subst (λ (s : List ℕ). length s ≤ 4096) (t .whole) (rw (whole-length text j) (bytes-few text j h)) in
     record {
       token = t .tree;
-      canonical = record { good = t .good; bytes = subst IsBytes (t .whole) b; short = l; written = sym (whole-text text j) ∙ ap base64url (t .whole) };
+      canonical = record { good = t .good; are-bytes = subst IsBytes (t .whole) b; short = l; written = sym (whole-text text j) ∙ ap base64url (t .whole) };
     }
 
 -- what the readings find of a text that is no token's
@@ -93,8 +93,8 @@ defect-no-token text n d token c = by (defect-unread text n d)
 
     by : Unread text n → ⊥
     by (unread-long h e) = omega (arith, h, subst (λ (x : List ℕ). length x ≤ 5462) (sym (c .written)) (short-text bytes (c .short)))
-    by (unread-fault l at j e) = no-fault text bytes (c .bytes) (c .written) at j
-    by (unread-bytes l k j at f) = apart (sym f ∙ ap tokenOf (ap bytesOf (c .written) ∙ bytes-text bytes (c .bytes)) ∙ token-written token (c .good) bytes refl .answer)
+    by (unread-fault l at j e) = no-fault text bytes (c .are-bytes) (c .written) at j
+    by (unread-bytes l k j at f) = apart (sym f ∙ ap tokenOf (ap bytesOf (c .written) ∙ bytes-text bytes (c .are-bytes)) ∙ token-written token (c .good) bytes refl .answer)
 
 -- every text has a first defect, or is that of a token
 pub data TextIs (text : List ℕ) : Type 0 where

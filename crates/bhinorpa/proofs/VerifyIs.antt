@@ -36,7 +36,7 @@ module _ (rows : List Row) (gr : GoodTable rows) (body : List ℕ) (asked : Requ
   canonical-is token c =
       let b = encodeToken token in
       let l = short-text b (c .short) in
-      rw (c .written, le-ltb 5462 (length (base64url b)) l, judged-text b (c .bytes), le-leb (length b) 4096 (c .short), bytes-text b (c .bytes))
+      rw (c .written, le-ltb 5462 (length (base64url b)) l, judged-text b (c .are-bytes), le-leb (length b) 4096 (c .short), bytes-text b (c .are-bytes))
       (token-law rows gr body asked q h token (c .good) b refl who ew)
 
   unread-is : (n : ℕ) → Unread text n → textThen (encodeTable rows) text body q who ≡ n

@@ -36,7 +36,7 @@ textOf token = base64url (encodeToken token)
 
 pub record Canonical (text : List ℕ) (token : Token) : Type 0 where
   pub good : GoodToken token
-  pub bytes : IsBytes (encodeToken token)
+  pub are-bytes : IsBytes (encodeToken token)
   pub short : length (encodeToken token) ≤ 4096
   pub written : text ≡ textOf token
 
