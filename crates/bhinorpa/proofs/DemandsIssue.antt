@@ -14,12 +14,12 @@ use Rattle.handing.specs.declared.Outcome.{Outcome}
 use Rattle.issuing.specs.Issuing.{issueOf}
 use Rattle.issuing.proofs.Fresh.{known-named}
 use Rattle.issuing.proofs.OneAnswer.{issue-one-answer}
-use Rattle.bhinorpa.specs.Allowed.{TableOf, textOf, caveatBytes, chainTag}
+use Rattle.bhinorpa.specs.Allowed.{TableOf, tokenText, caveatBytes, chainTag}
 use Rattle.bhinorpa.specs.Handouts.{ScopeOf, Grant, freshToken, Issued}
 use Rattle.bhinorpa.specs.Verdicts.{out-short, done, IssueVerdict, issue-table-bad, issue-scope-bad, issue-kid-unknown, issue-grants, oneOf, issueAnswers}
 use Rattle.bhinorpa.specs.Demands.{IssueList, IssueFirstFailing, IssueVerdictOne, IdsOfRows, IssueRefusals, IssueWrites}
 use Rattle.bhinorpa.proofs.Lists.{listed}
-use Rattle.bhinorpa.proofs.Rooms.{refuses, refuses-back, hands-out, hands-back, wrote}
+use Rattle.bhinorpa.proofs.Rooms.{refuses, refuses-back, in-room, in-room-back, wrote}
 use Rattle.bhinorpa.proofs.Tables.{TableIs, no-table, one-table, table-is}
 use Rattle.bhinorpa.proofs.Items.{ScopeIs, no-scope, one-scope, scope-is, scope-few}
 use Rattle.bhinorpa.proofs.Handouts.{fresh-canonical}
@@ -35,7 +35,7 @@ issue-first-failing table tid kid bytes bt bb entry outcome exit w = by-table (t
     by-row rows t scope s false k = issue-kid-unknown rows t scope s k (refuses h entry outcome exit 7 (issue-unknown table tid kid bytes rows t scope s k) w)
     by-row rows t scope s true k =
         let g : Grant table tid kid bytes rows scope = record { table-is = t; scope-is = s; known = k } in
-        issue-grants rows scope g (hands-out h entry outcome exit (textOf (freshToken rows scope tid kid)) (issue-granted table tid kid bytes rows scope g) w)
+        issue-grants rows scope g (in-room h entry outcome exit (tokenText (freshToken rows scope tid kid)) (issue-granted table tid kid bytes rows scope g) w)
 
     by-scope : (rows : List Row) → TableOf table rows → ScopeIs bytes → IssueVerdict table tid kid bytes entry outcome exit
     by-scope rows t (no-scope n d) = issue-scope-bad rows t n d (refuses h entry outcome exit n (issue-defect table tid kid bytes rows t n d) w)
@@ -54,7 +54,7 @@ module _ (table tid kid bytes : List ℕ) (bt : IsBytes table) (entry : List ℕ
   verdict-is (issue-table-bad h r) = refuses-back out entry outcome exit 1 (issue-no-table table tid kid bytes bt h) r
   verdict-is (issue-scope-bad rows t n d r) = refuses-back out entry outcome exit n (issue-defect table tid kid bytes rows t n d) r
   verdict-is (issue-kid-unknown rows t scope s k r) = refuses-back out entry outcome exit 7 (issue-unknown table tid kid bytes rows t scope s k) r
-  verdict-is (issue-grants rows scope g o) = hands-back out entry outcome exit (textOf (freshToken rows scope tid kid)) (issue-granted table tid kid bytes rows scope g) o
+  verdict-is (issue-grants rows scope g o) = in-room-back out entry outcome exit (tokenText (freshToken rows scope tid kid)) (issue-granted table tid kid bytes rows scope g) o
 
 pub issue-verdict-one : IssueVerdictOne
 issue-verdict-one table tid kid bytes bt entry first second left right v w =

@@ -19,12 +19,12 @@ use Rattle.handing.specs.Handing.{Handed, refused, handed, answerOf, Handing}
 use Rattle.handing.specs.declared.Outcome.{Outcome}
 use Rattle.narrowing.specs.Narrowing.{narrowOf}
 use Rattle.narrowing.proofs.OneAnswer.{narrow-one-answer}
-use Rattle.bhinorpa.specs.Allowed.{TableOf, textOf, Canonical, chainTag, keyFor}
+use Rattle.bhinorpa.specs.Allowed.{TableOf, tokenText, Canonical, chainTag, keyFor}
 use Rattle.bhinorpa.specs.Handouts.{CaveatOf, Parent, childToken}
-use Rattle.bhinorpa.specs.Verdicts.{Handout, out-short, done, NarrowVerdict, narrow-table-bad, narrow-no-token, narrow-kid-unknown, narrow-mac, narrow-caveat-bad, narrow-full, narrow-size-full, narrow-hands, oneOf, narrowAnswers}
+use Rattle.bhinorpa.specs.Verdicts.{RoomVerdict, out-short, done, NarrowVerdict, narrow-table-bad, narrow-no-token, narrow-kid-unknown, narrow-mac, narrow-caveat-bad, narrow-full, narrow-size-full, narrow-child, oneOf, narrowAnswers}
 use Rattle.bhinorpa.specs.Demands.{NarrowList, NarrowFirstFailing, NarrowVerdictOne, NarrowWrites, NarrowingRefusals}
 use Rattle.bhinorpa.proofs.Lists.{listed}
-use Rattle.bhinorpa.proofs.Rooms.{refuses, refuses-back, hands-out, hands-back, wrote}
+use Rattle.bhinorpa.proofs.Rooms.{refuses, refuses-back, in-room, in-room-back, wrote}
 use Rattle.bhinorpa.proofs.Tables.{TableIs, no-table, one-table, table-is}
 use Rattle.bhinorpa.proofs.Texts.{TextIs, no-token, one-token, text-is, defect-few}
 use Rattle.bhinorpa.proofs.Items.{CaveatIs, no-caveat, one-caveat, caveat-is, caveat-few}
@@ -46,8 +46,8 @@ module _ (table text bytes : List ℕ) (bt : IsBytes table) (bb : IsBytes bytes)
         narrow-size-full rows token p added a l g (refuses h entry outcome exit 35 (narrow-too-large table text bytes rows token p added a l g) w)
     by-size added a l false q =
         let g = ltb-false 4096 (length (encodeToken (childToken rows token added))) q in
-        narrow-hands rows token p added a l g
-        (hands-out h entry outcome exit (textOf (childToken rows token added)) (narrow-handed table text bytes rows token p added a l g) w)
+        narrow-child rows token p added a l g
+        (in-room h entry outcome exit (tokenText (childToken rows token added)) (narrow-handed table text bytes rows token p added a l g) w)
 
     by-count : (added : Caveat) → CaveatOf bytes added → (b : Bool) → eqb (length (token .caveats)) 64 ≡ b → Is
     by-count added a true q =
@@ -101,8 +101,8 @@ module _ (table text bytes : List ℕ) (bt : IsBytes table) (entry : List ℕ) (
   verdict-is (narrow-caveat-bad rows token p n d r) = refuses-back out entry outcome exit (n + 27) (narrow-caveat-defect table text bytes rows token p n d) r
   verdict-is (narrow-full rows token p added a f r) = refuses-back out entry outcome exit 34 (narrow-is-full table text bytes rows token p added a f) r
   verdict-is (narrow-size-full rows token p added a l g r) = refuses-back out entry outcome exit 35 (narrow-too-large table text bytes rows token p added a l g) r
-  verdict-is (narrow-hands rows token p added a l g o) =
-      hands-back out entry outcome exit (textOf (childToken rows token added)) (narrow-handed table text bytes rows token p added a l g) o
+  verdict-is (narrow-child rows token p added a l g o) =
+      in-room-back out entry outcome exit (tokenText (childToken rows token added)) (narrow-handed table text bytes rows token p added a l g) o
 
 pub narrow-verdict-one : NarrowVerdictOne
 narrow-verdict-one table text bytes bt entry first second left right v w =
@@ -120,8 +120,8 @@ narrow-list table text bytes bt bb entry outcome exit w = by (narrow-first-faili
     by (narrow-caveat-bad rows token p n d r) = let k = caveat-few bytes n d in rw (r .answer) (listed (λ n. oneOf narrowAnswers (n + 27)) 4 refl n (k .0) (k .1))
     by (narrow-full rows token p added a f r) = rw (r .answer)
     by (narrow-size-full rows token p added a l g r) = rw (r .answer)
-    by (narrow-hands rows token p added a l g (done m r)) = rw (r .answer)
-    by (narrow-hands rows token p added a l g (out-short m r)) = rw (r .answer)
+    by (narrow-child rows token p added a l g (done m r)) = rw (r .answer)
+    by (narrow-child rows token p added a l g (out-short m r)) = rw (r .answer)
 
 -- an answer of 0 is of a child
 pub record Child (table text bytes entry : List ℕ) (outcome : Outcome) (exit : List ℕ) : Type 0 where
@@ -130,8 +130,8 @@ pub record Child (table text bytes entry : List ℕ) (outcome : Outcome) (exit :
   pub parent : Parent table text rows token
   pub added : Caveat
   pub caveat-is : CaveatOf bytes added
-  pub canonical : Canonical (textOf (childToken rows token added)) (childToken rows token added)
-  pub handout : Handout (textOf (childToken rows token added)) entry outcome exit
+  pub canonical : Canonical (tokenText (childToken rows token added)) (childToken rows token added)
+  pub room : RoomVerdict (tokenText (childToken rows token added)) entry outcome exit
 
 pub child-of : (table text bytes : List ℕ) → IsBytes table → IsBytes bytes → (entry : List ℕ) (outcome : Outcome) (exit : List ℕ)
     → Handing (narrowOf table text bytes) entry outcome exit → outcome .answer ≡ 0 → Child table text bytes entry outcome exit
@@ -148,7 +148,7 @@ child-of table text bytes bt bb entry outcome exit w z = by (narrow-first-failin
     by (narrow-caveat-bad rows token p n d r) = refused-not (n + 27) (r .answer) (omega arith)
     by (narrow-full rows token p added a f r) = refused-not 34 (r .answer) (omega arith)
     by (narrow-size-full rows token p added a l g r) = refused-not 35 (r .answer) (omega arith)
-    by (narrow-hands rows token p added a l g o) =
+    by (narrow-child rows token p added a l g o) =
         record {
           rows = rows;
           token = token;
@@ -156,7 +156,7 @@ child-of table text bytes bt bb entry outcome exit w z = by (narrow-first-failin
           added = added;
           caveat-is = a;
           canonical = child-canonical rows text token (p .canonical) added (a .good) (subst IsBytes (a .written) bb) l g;
-          handout = o;
+          room = o;
         }
 
 pub narrow-writes : NarrowWrites
@@ -169,7 +169,7 @@ narrow-writes table text bytes bt bb entry outcome exit w z =
       added = c .added;
       caveat-is = c .caveat-is;
       tagged = child-tagged (c .rows) (c .token) (c .added) (c .parent .tagged);
-      wrote = wrote (childToken (c .rows) (c .token) (c .added)) entry outcome exit (c .canonical) (c .handout) z;
+      wrote = wrote (childToken (c .rows) (c .token) (c .added)) entry outcome exit (c .canonical) (c .room) z;
     }
 
 pub narrowing-refusals : NarrowingRefusals
@@ -182,12 +182,12 @@ narrowing-refusals table text bytes rows token p added a entry outcome exit w =
     answer : Handed → ℕ
     answer h = answerOf h (length entry)
 
-    sized-answer : (b : Bool) → answer (pick b (refused 35) (handed (textOf child))) ≡ pick b 35 (pick (leb (length (textOf child)) (length entry)) 0 36)
+    sized-answer : (b : Bool) → answer (pick b (refused 35) (handed (tokenText child))) ≡ pick b 35 (pick (leb (length (tokenText child)) (length entry)) 0 36)
     sized-answer true = refl
     sized-answer false = refl
 
     by : (b : Bool) → eqb (length (token .caveats)) 64 ≡ b
-        → answer (narrowOf table text bytes) ≡ pick b 34 (pick (ltb 4096 (length (encodeToken child))) 35 (pick (leb (length (textOf child)) (length entry)) 0 36))
+        → answer (narrowOf table text bytes) ≡ pick b 34 (pick (ltb 4096 (length (encodeToken child))) 35 (pick (leb (length (tokenText child)) (length entry)) 0 36))
     by true q = ap answer (narrow-is-full table text bytes rows token p added a (eqb-true (length (token .caveats)) 64 q))
     by false q =
         ap answer (narrow-sized table text bytes rows token p added a (omega (arith, eqb-false (length (token .caveats)) 64 q, p .canonical .good .few)))

@@ -21,13 +21,13 @@ use Rattle.handing.specs.Handing.{Handed, handed, Handing}
 use Rattle.handing.proofs.Sizes.{short-text}
 use Rattle.issuing.specs.Issuing.{issueOf}
 use Rattle.narrowing.specs.Narrowing.{narrowOf}
-use Rattle.bhinorpa.specs.Allowed.{textOf, Canonical, caveatBytes, keyFor}
+use Rattle.bhinorpa.specs.Allowed.{tokenText, Canonical, caveatBytes, keyFor}
 use Rattle.bhinorpa.specs.Handouts.{CaveatOf, Grant, Parent, childToken, Call, leftBy, Narrowings, lastOf, AllDone}
-use Rattle.bhinorpa.specs.Verdicts.{Handout, out-short, done}
+use Rattle.bhinorpa.specs.Verdicts.{RoomVerdict, out-short, done}
 use Rattle.bhinorpa.specs.Demands.{Rebuilt, RoomEnough}
 use Rattle.bhinorpa.proofs.AreBytes.{front-bytes, token-bytes, parts-bytes}
 use Rattle.bhinorpa.proofs.Handouts.{tag-bytes, caveats-one-more}
-use Rattle.bhinorpa.proofs.Rooms.{hands-out, front-text}
+use Rattle.bhinorpa.proofs.Rooms.{in-room, front-text}
 use Rattle.bhinorpa.proofs.IssueIs.{issue-granted}
 use Rattle.bhinorpa.proofs.NarrowIs.{narrow-handed}
 
@@ -37,9 +37,9 @@ room-enough text token c = subst (λ (x : List ℕ). length x ≤ 5462) (sym (c 
 -- a call that hands out a text leaves it in a room that is always enough
 left-text : (h : Handed) (text : List ℕ) → h ≡ handed text → length text ≤ 5462 → (call : Call) → 5462 ≤ length (call .entry)
     → Handing h (call .entry) (call .outcome) (call .exit) → (call .outcome .answer ≡ 0) × (leftBy call ≡ text)
-left-text h text e l call enough w = by (hands-out h (call .entry) (call .outcome) (call .exit) text e w)
+left-text h text e l call enough w = by (in-room h (call .entry) (call .outcome) (call .exit) text e w)
   where
-    by : Handout text (call .entry) (call .outcome) (call .exit) → (call .outcome .answer ≡ 0) × (leftBy call ≡ text)
+    by : RoomVerdict text (call .entry) (call .outcome) (call .exit) → (call .outcome .answer ≡ 0) × (leftBy call ≡ text)
     by (done m r) = (r .answer, front-text text (call .entry) (call .outcome) (call .exit) r)
     by (out-short m r) = let z : ⊥ = omega (arith, m, l, enough) in elim z [ ]
 
@@ -111,7 +111,7 @@ module _ (rows : List Row) (text : List ℕ) (t : Token) (w : Canonical text t) 
         same-size : (x y : List ℕ) → length x ≡ length y → length (string 2 x) ≡ length (string 2 y)
         same-size x y q = length-append (head 2 (length x)) x ∙ ap (λ (n : ℕ). length (head 2 n) + n) q ∙ sym (length-append (head 2 (length y)) y)
 
-    part-canonical : Canonical (textOf (part rows t before)) (part rows t before)
+    part-canonical : Canonical (tokenText (part rows t before)) (part rows t before)
     part-canonical =
         let g = w .good in
         let p = parts-bytes (length (t .caveats)) (encodeCaveats (t .caveats)) (encodeScope (t .scope)) (t .tag) (t .kid) (t .tid) (w .are-bytes) in
@@ -137,7 +137,7 @@ module _ (rows : List Row) (text : List ℕ) (t : Token) (w : Canonical text t) 
 -- issuing gives the part without caveats, and narrowing by the next caveat the part with it
 module _ (table text : List ℕ) (rows : List Row) (t : Token) (p : Parent table text rows t) where
   abbrev out : List Caveat → List ℕ
-  out before = textOf (part rows t before)
+  out before = tokenText (part rows t before)
 
   granted : Grant table (t .tid) (t .kid) (encodeScope (t .scope)) rows (t .scope)
   granted = record { table-is = p .table-is; scope-is = record { good = p .canonical .good .good-scope; written = refl }; known = p .known }
@@ -158,7 +158,7 @@ module _ (table text : List ℕ) (rows : List Row) (t : Token) (p : Parent table
       let same = one-more rows text t w before c in
       let short = part-short rows text t w (before ++ (c ∷ [])) rest (e ∙ sym (append-assoc before (c ∷ []) rest)) in
       narrow-handed table (out before) (encodeCaveat c) rows u parent c added few (subst (λ (v : Token). length (encodeToken v) ≤ 4096) (sym same) short)
-      ∙ ap (λ (v : Token). handed (textOf v)) same
+      ∙ ap (λ (v : Token). handed (tokenText v)) same
 
   out-short-enough : (before rest : List Caveat) → t .caveats ≡ before ++ rest → length (out before) ≤ 5462
   out-short-enough before rest e = room-enough (out before) (part rows t before) (part-canonical rows text t (p .canonical) before rest e)
@@ -189,4 +189,4 @@ unfolding AllDone
 rebuilt table text rows token p first enough w calls n =
     let k = left-text (issueOf table (token .tid) (token .kid) (encodeScope (token .scope))) (out table text rows token p []) (issued-first table text rows token p) (out-short-enough table text rows token p [] (token .caveats) refl) first enough w in
     let m = narrowed-rest table text rows token p (token .caveats) [] refl first (k .1) calls n in
-    ((k .0, m .0), m .1 ∙ ap textOf (whole-is table text rows token p) ∙ sym (p .canonical .written))
+    ((k .0, m .0), m .1 ∙ ap tokenText (whole-is table text rows token p) ∙ sym (p .canonical .written))

@@ -16,7 +16,7 @@ use Rattle.tables.proofs.TableLaws.{find-finds, key-of-row}
 use Rattle.handing.specs.Handing.{refused, handed}
 use Rattle.issuing.specs.Issuing.{issueWith, issueOf}
 use Rattle.issuing.proofs.Fresh.{issue-bad-table, issue-bad-scope, issue-left-over, issue-found}
-use Rattle.bhinorpa.specs.Allowed.{TableOf, textOf}
+use Rattle.bhinorpa.specs.Allowed.{TableOf, tokenText}
 use Rattle.bhinorpa.specs.Handouts.{ScopeOf, Grant, freshToken}
 use Rattle.bhinorpa.specs.Verdicts.{NoTable, ScopeDefect, scope-unreadable, scope-left-over}
 use Rattle.bhinorpa.proofs.Tables.{good-table, bad-table}
@@ -34,13 +34,13 @@ module _ (table tid kid bytes : List ℕ) where
         sym (issue-left-over table tid kid bytes (good-table table rows t) (w .answer) (λ l. all-left bytes (encodeScope scope) rest e h (omega (arith, l)))) ∙ ap refused (sym z)
 
     found : (scope : Scope) → issueWith (findFrom 64 (encodeTable rows) tid kid 0) tid kid (encodeScope scope)
-        ≡ pick (hasRow rows tid kid) (handed (textOf (freshToken rows scope tid kid))) (refused 7)
+        ≡ pick (hasRow rows tid kid) (handed (tokenText (freshToken rows scope tid kid))) (refused 7)
     unfolding issueWith tagOf chainOf
     found scope =
         let key = keyIn rows tid kid in
         rw (find-finds rows (t .good) tid kid, key-of-row rows (t .good) tid kid, fresh-written scope (firstLink key tid kid (encodeScope scope)) kid tid)
 
-    pub issue-scoped : (scope : Scope) → ScopeOf bytes scope → issueOf table tid kid bytes ≡ pick (hasRow rows tid kid) (handed (textOf (freshToken rows scope tid kid))) (refused 7)
+    pub issue-scoped : (scope : Scope) → ScopeOf bytes scope → issueOf table tid kid bytes ≡ pick (hasRow rows tid kid) (handed (tokenText (freshToken rows scope tid kid))) (refused 7)
     issue-scoped scope s =
         let w = scope-written scope (s .good) bytes [] 0 (s .written ∙ sym (append-nil (encodeScope scope))) in
         sym (issue-found table tid kid bytes (good-table table rows t) (w .answer) (omega (arith, ap length (s .written))) refl)
@@ -48,9 +48,9 @@ module _ (table tid kid bytes : List ℕ) where
         ∙ found scope
 
     pub issue-unknown : (scope : Scope) → ScopeOf bytes scope → hasRow rows tid kid ≡ false → issueOf table tid kid bytes ≡ refused 7
-    issue-unknown scope s k = issue-scoped scope s ∙ ap (λ (b : Bool). pick b (handed (textOf (freshToken rows scope tid kid))) (refused 7)) k
+    issue-unknown scope s k = issue-scoped scope s ∙ ap (λ (b : Bool). pick b (handed (tokenText (freshToken rows scope tid kid))) (refused 7)) k
 
-  pub issue-granted : (rows : List Row) (scope : Scope) → Grant table tid kid bytes rows scope → issueOf table tid kid bytes ≡ handed (textOf (freshToken rows scope tid kid))
+  pub issue-granted : (rows : List Row) (scope : Scope) → Grant table tid kid bytes rows scope → issueOf table tid kid bytes ≡ handed (tokenText (freshToken rows scope tid kid))
   issue-granted rows scope g =
       issue-scoped rows (g .table-is) scope (g .scope-is)
-      ∙ ap (λ (b : Bool). pick b (handed (textOf (freshToken rows scope tid kid))) (refused 7)) (g .known)
+      ∙ ap (λ (b : Bool). pick b (handed (tokenText (freshToken rows scope tid kid))) (refused 7)) (g .known)

@@ -22,7 +22,7 @@ use Rattle.handing.specs.Handing.{refused, handed}
 use Rattle.growing.specs.Growing.{sized}
 use Rattle.narrowing.specs.Narrowing.{tokenThen, bytesThen, decodedThen, textThen, narrowOf}
 use Rattle.narrowing.proofs.Narrowed.{narrow-too-long, narrow-bad-table, narrow-good-table}
-use Rattle.bhinorpa.specs.Allowed.{TableOf, textOf, Canonical, chainTag, keyFor}
+use Rattle.bhinorpa.specs.Allowed.{TableOf, tokenText, Canonical, chainTag, keyFor}
 use Rattle.bhinorpa.specs.Handouts.{CaveatOf, Parent, childToken}
 use Rattle.bhinorpa.specs.Verdicts.{NoTable, TextDefect, CaveatDefect, caveat-unreadable, caveat-left-over}
 use Rattle.bhinorpa.proofs.Tables.{good-table, bad-table}
@@ -88,7 +88,7 @@ module _ (table text bytes : List ℕ) where
       narrow-is-full e = narrow-good ∙ rw (le-leb 64 (length (token .caveats)) (omega (arith, e)))
 
       pub narrow-sized : length (token .caveats) < 64
-          → narrowOf table text bytes ≡ pick (ltb 4096 (length (encodeToken (childToken rows token added)))) (refused 35) (handed (textOf (childToken rows token added)))
+          → narrowOf table text bytes ≡ pick (ltb 4096 (length (encodeToken (childToken rows token added)))) (refused 35) (handed (tokenText (childToken rows token added)))
       unfolding sized
       narrow-sized l = narrow-good ∙ rw (lt-leb 64 (length (token .caveats)) l)
 
@@ -96,5 +96,5 @@ module _ (table text bytes : List ℕ) where
       narrow-too-large l g = narrow-sized l ∙ rw (lt-ltb 4096 (length (encodeToken (childToken rows token added))) g)
 
       pub narrow-handed : length (token .caveats) < 64 → length (encodeToken (childToken rows token added)) ≤ 4096
-          → narrowOf table text bytes ≡ handed (textOf (childToken rows token added))
+          → narrowOf table text bytes ≡ handed (tokenText (childToken rows token added))
       narrow-handed l g = narrow-sized l ∙ rw (le-ltb 4096 (length (encodeToken (childToken rows token added))) g)

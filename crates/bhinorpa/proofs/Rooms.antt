@@ -1,4 +1,4 @@
--- What is handed out and what the room holds then: the contract's words (`Handing`) and the verdicts' (`Refuses`, `Handout`) are one.
+-- What is handed out and what the room holds then: the contract's words (`Handing`) and the verdicts' (`Refuses`, `RoomVerdict`) are one.
 use mathlib.Core.Path.{_≡_, refl, sym, ap, subst, _∙_}
 use mathlib.Core.Bool.{Bool, true, false}
 use mathlib.Core.List.{List}
@@ -13,9 +13,9 @@ use Rattle.text_writing.proofs.Writings.{text-length}
 use Rattle.token.specs.Tokens.{Token, encodeToken}
 use Rattle.handing.specs.Handing.{Handed, refused, handed, Handing}
 use Rattle.handing.specs.declared.Outcome.{Outcome}
-use Rattle.bhinorpa.specs.Allowed.{textOf, Canonical}
+use Rattle.bhinorpa.specs.Allowed.{tokenText, Canonical}
 use Rattle.bhinorpa.specs.Handouts.{Wrote}
-use Rattle.bhinorpa.specs.Verdicts.{Refuses, Hands, Handout, out-short, done}
+use Rattle.bhinorpa.specs.Verdicts.{Refuses, Writes, RoomVerdict, out-short, done}
 use Rattle.bhinorpa.specs.Demands.{RefusalWritesNothing}
 
 module _ (h : Handed) (entry : List ℕ) (outcome : Outcome) (exit : List ℕ) where
@@ -29,35 +29,35 @@ module _ (h : Handed) (entry : List ℕ) (outcome : Outcome) (exit : List ℕ) w
       let v : Handing (refused n) entry outcome exit = record { answer = r .answer; count = r .count; content = r .content } in
       subst (λ x. Handing x entry outcome exit) (sym e) v
 
-  pub hands-out : (text : List ℕ) → h ≡ handed text → Handing h entry outcome exit → Handout text entry outcome exit
-  hands-out text e w =
+  pub in-room : (text : List ℕ) → h ≡ handed text → Handing h entry outcome exit → RoomVerdict text entry outcome exit
+  in-room text e w =
       let v : Handing (handed text) entry outcome exit = subst (λ x. Handing x entry outcome exit) e w in
       by (leb (length text) (length entry)) refl (v .answer) (v .count) (v .content)
     where
       by : (b : Bool) → leb (length text) (length entry) ≡ b → outcome .answer ≡ pick b 0 36 → outcome .length ≡ pick b (length text) 0 → exit ≡ pick b (over text entry) entry
-          → Handout text entry outcome exit
+          → RoomVerdict text entry outcome exit
       by true p a n c = done (leb-true (length text) (length entry) p) (record { answer = a; count = n; content = c })
       by false p a n c = out-short (leb-false (length text) (length entry) p) (record { answer = a; count = n; content = c })
 
-  pub hands-back : (text : List ℕ) → h ≡ handed text → Handout text entry outcome exit → Handing h entry outcome exit
-  hands-back text e o = subst (λ x. Handing x entry outcome exit) (sym e) (by o)
+  pub in-room-back : (text : List ℕ) → h ≡ handed text → RoomVerdict text entry outcome exit → Handing h entry outcome exit
+  in-room-back text e o = subst (λ x. Handing x entry outcome exit) (sym e) (by o)
     where
-      by : Handout text entry outcome exit → Handing (handed text) entry outcome exit
+      by : RoomVerdict text entry outcome exit → Handing (handed text) entry outcome exit
       by (done l r) = let q = le-leb (length text) (length entry) l in record { answer = rw q (r .answer); count = rw q (r .count); content = rw q (r .content) }
       by (out-short l r) = let q = lt-leb (length text) (length entry) l in record { answer = rw q (r .answer); count = rw q (r .count); content = rw q (r .content) }
 
 -- what is handed out and answered with 0 is the text, whole
-pub handed-text : (text entry : List ℕ) (outcome : Outcome) (exit : List ℕ) → Handout text entry outcome exit → outcome .answer ≡ 0
-    → (length text ≤ length entry) × Hands text entry outcome exit
+pub handed-text : (text entry : List ℕ) (outcome : Outcome) (exit : List ℕ) → RoomVerdict text entry outcome exit → outcome .answer ≡ 0
+    → (length text ≤ length entry) × Writes text entry outcome exit
 handed-text text entry outcome exit (done l r) z = (l, r)
 handed-text text entry outcome exit (out-short l r) z = let x : ⊥ = omega (arith, r .answer, z) in elim x [ ]
 
-pub wrote : (token : Token) (entry : List ℕ) (outcome : Outcome) (exit : List ℕ) → Canonical (textOf token) token → Handout (textOf token) entry outcome exit
+pub wrote : (token : Token) (entry : List ℕ) (outcome : Outcome) (exit : List ℕ) → Canonical (tokenText token) token → RoomVerdict (tokenText token) entry outcome exit
     → outcome .answer ≡ 0 → Wrote token entry outcome exit
 wrote token entry outcome exit c o z =
-    let w = handed-text (textOf token) entry outcome exit o z in
+    let w = handed-text (tokenText token) entry outcome exit o z in
     record {
-      text = textOf token;
+      text = tokenText token;
       canonical = c;
       enough = w .0;
       content = w .1 .content;
@@ -66,14 +66,14 @@ wrote token entry outcome exit c o z =
     }
 
 -- the text stands at the front of the room
-pub front-text : (text entry : List ℕ) (outcome : Outcome) (exit : List ℕ) → Hands text entry outcome exit → take (outcome .length) exit ≡ text
+pub front-text : (text entry : List ℕ) (outcome : Outcome) (exit : List ℕ) → Writes text entry outcome exit → take (outcome .length) exit ≡ text
 front-text text entry outcome exit r =
     ap (λ (n : ℕ). take n exit) (r .count) ∙ ap (take (length text)) (r .content) ∙ take-at text _ (length text) refl
 
 pub refusal-writes-nothing : RefusalWritesNothing
 refusal-writes-nothing (refused n) entry outcome exit w d = (w .count, w .content)
-refusal-writes-nothing (handed text) entry outcome exit w d = by (hands-out (handed text) entry outcome exit text refl w)
+refusal-writes-nothing (handed text) entry outcome exit w d = by (in-room (handed text) entry outcome exit text refl w)
   where
-    by : Handout text entry outcome exit → (outcome .length ≡ 0) × (exit ≡ entry)
+    by : RoomVerdict text entry outcome exit → (outcome .length ≡ 0) × (exit ≡ entry)
     by (done l r) = let z = d (r .answer) in elim z [ ]
     by (out-short l r) = (r .count, r .content)

@@ -31,14 +31,14 @@ pub record RequestOf (request : List ℕ) (asked : Request) : Type 0 where
   pub written : request ≡ encodeRequest asked
 
 -- the one text of a token within limits. 01: "Text is Base64URL without padding ... At most 4,096 decoded bytes"
-abbrev pub textOf : Token → List ℕ
-textOf token = base64url (encodeToken token)
+abbrev pub tokenText : Token → List ℕ
+tokenText token = base64url (encodeToken token)
 
 pub record Canonical (text : List ℕ) (token : Token) : Type 0 where
   pub good : GoodToken token
   pub are-bytes : IsBytes (encodeToken token)
   pub short : length (encodeToken token) ≤ 4096
-  pub written : text ≡ textOf token
+  pub written : text ≡ tokenText token
 
 unfoldable pub caveatBytes : List Caveat → List (List ℕ)
 caveatBytes [] = []

@@ -26,7 +26,7 @@ use Rattle.handing.specs.Handing.{Handed, Handing}
 use Rattle.handing.specs.declared.Outcome.{Outcome}
 use Rattle.issuing.specs.Issuing.{issueOf}
 use Rattle.narrowing.specs.Narrowing.{narrowOf}
-use Rattle.bhinorpa.specs.Allowed.{TableOf, RequestOf, textOf, Canonical, caveatBytes, Allowed}
+use Rattle.bhinorpa.specs.Allowed.{TableOf, RequestOf, tokenText, Canonical, caveatBytes, Allowed}
 use Rattle.bhinorpa.specs.Handouts.{CaveatOf, Grant, Parent, freshToken, childToken, Issued, Narrowed, NarrowsExactly, Call, leftBy, Narrowings, lastOf, AllDone}
 use Rattle.bhinorpa.specs.Verdicts.{TextDefect, Verdict, IssueVerdict, NarrowVerdict, oneOf, verifyAnswers, issueAnswers, narrowAnswers}
 
@@ -93,7 +93,7 @@ abbrev pub IssueRefusals : Type 0
 IssueRefusals =
     (table tid kid bytes : List ℕ) (rows : List Row) (scope : Scope) → Grant table tid kid bytes rows scope → (entry : List ℕ) (outcome : Outcome) (exit : List ℕ)
     → Handing (issueOf table tid kid bytes) entry outcome exit
-    → outcome .answer ≡ pick (leb (length (textOf (freshToken rows scope tid kid))) (length entry)) (numberOf Allow) (numberOf OutShort)
+    → outcome .answer ≡ pick (leb (length (tokenText (freshToken rows scope tid kid))) (length entry)) (numberOf Allow) (numberOf OutShort)
 
 -- and of narrow
 abbrev pub NarrowFirstFailing : Type 0
@@ -146,7 +146,7 @@ NarrowingRefusals =
     → outcome .answer
     ≡ pick (eqb (length (token .caveats)) 64) (numberOf CavFull)
     (pick (ltb 4096 (length (encodeToken (childToken rows token added)))) (numberOf SizeFull)
-    (pick (leb (length (textOf (childToken rows token added))) (length entry)) (numberOf Allow) (numberOf OutShort)))
+    (pick (leb (length (tokenText (childToken rows token added))) (length entry)) (numberOf Allow) (numberOf OutShort)))
 
 -- Document 01, "What holds when": "ip_cidr, a present peer's first n bits agree"
 abbrev pub FirstBits : Type 0

@@ -25,7 +25,7 @@ use Rattle.token.specs.declared.TokenParts.the-variants.{Bad as NoToken}
 use Rattle.tables.specs.Tables.{Row, hasRow}
 use Rattle.requests.specs.Requests.{Request}
 use Rattle.handing.specs.declared.Outcome.{Outcome}
-use Rattle.bhinorpa.specs.Allowed.{TableOf, RequestOf, textOf, Canonical, chainTag, keyFor, firstFailing, checksOf}
+use Rattle.bhinorpa.specs.Allowed.{TableOf, RequestOf, tokenText, Canonical, chainTag, keyFor, firstFailing, checksOf}
 use Rattle.bhinorpa.specs.Handouts.{ScopeOf, CaveatOf, Grant, Parent, freshToken, childToken}
 
 abbrev pub NoTable : List ℕ → Type 0
@@ -69,15 +69,15 @@ pub record Refuses (n : ℕ) (entry : List ℕ) (outcome : Outcome) (exit : List
   pub content : exit ≡ entry
 
 -- "Done returns the text's length; the rest of the room stays."
-pub record Hands (text entry : List ℕ) (outcome : Outcome) (exit : List ℕ) : Type 0 where
+pub record Writes (text entry : List ℕ) (outcome : Outcome) (exit : List ℕ) : Type 0 where
   pub answer : outcome .answer ≡ numberOf Allow
   pub count : outcome .length ≡ length text
   pub content : exit ≡ over text entry
 
 -- 36, the last check: the text in a room that holds it, or a refusal
-pub data Handout (text entry : List ℕ) (outcome : Outcome) (exit : List ℕ) : Type 0 where
-  out-short : length entry < length text → Refuses (numberOf OutShort) entry outcome exit → Handout text entry outcome exit
-  done : length text ≤ length entry → Hands text entry outcome exit → Handout text entry outcome exit
+pub data RoomVerdict (text entry : List ℕ) (outcome : Outcome) (exit : List ℕ) : Type 0 where
+  out-short : length entry < length text → Refuses (numberOf OutShort) entry outcome exit → RoomVerdict text entry outcome exit
+  done : length text ≤ length entry → Writes text entry outcome exit → RoomVerdict text entry outcome exit
 
 -- "Issue: 1, the scope's reading (4 to 6), 7 (also for a tid or kid of wrong form), 36."
 pub data IssueVerdict (table tid kid bytes entry : List ℕ) (outcome : Outcome) (exit : List ℕ) : Type 0 where
@@ -85,7 +85,7 @@ pub data IssueVerdict (table tid kid bytes entry : List ℕ) (outcome : Outcome)
   issue-scope-bad : (rows : List Row) → TableOf table rows → (n : ℕ) → ScopeDefect bytes n → Refuses n entry outcome exit → IssueVerdict table tid kid bytes entry outcome exit
   issue-kid-unknown : (rows : List Row) → TableOf table rows → (scope : Scope) → ScopeOf bytes scope → hasRow rows tid kid ≡ false
       → Refuses (numberOf KidUnknown) entry outcome exit → IssueVerdict table tid kid bytes entry outcome exit
-  issue-grants : (rows : List Row) (scope : Scope) → Grant table tid kid bytes rows scope → Handout (textOf (freshToken rows scope tid kid)) entry outcome exit
+  issue-grants : (rows : List Row) (scope : Scope) → Grant table tid kid bytes rows scope → RoomVerdict (tokenText (freshToken rows scope tid kid)) entry outcome exit
       → IssueVerdict table tid kid bytes entry outcome exit
 
 -- "Narrow: 1, text length, 3, reading, 7, 8, the caveat's reading as 31, 32, 33 for 4, 5, 6, then 34, 35, 36."
@@ -102,8 +102,8 @@ pub data NarrowVerdict (table text bytes entry : List ℕ) (outcome : Outcome) (
       → Refuses (numberOf CavFull) entry outcome exit → NarrowVerdict table text bytes entry outcome exit
   narrow-size-full : (rows : List Row) (token : Token) → Parent table text rows token → (added : Caveat) → CaveatOf bytes added → length (token .caveats) < 64
       → 4096 < length (encodeToken (childToken rows token added)) → Refuses (numberOf SizeFull) entry outcome exit → NarrowVerdict table text bytes entry outcome exit
-  narrow-hands : (rows : List Row) (token : Token) → Parent table text rows token → (added : Caveat) → CaveatOf bytes added → length (token .caveats) < 64
-      → length (encodeToken (childToken rows token added)) ≤ 4096 → Handout (textOf (childToken rows token added)) entry outcome exit
+  narrow-child : (rows : List Row) (token : Token) → Parent table text rows token → (added : Caveat) → CaveatOf bytes added → length (token .caveats) < 64
+      → length (encodeToken (childToken rows token added)) ≤ 4096 → RoomVerdict (tokenText (childToken rows token added)) entry outcome exit
       → NarrowVerdict table text bytes entry outcome exit
 
 -- the closed list of each entry point's answers
