@@ -10,7 +10,6 @@ use lib.Dec.{eqb}
 use Rattle.basis.specs.Basis.{pick}
 use Rattle.answers.specs.Answers.{numberOf, nameOf, list, withNumber, answerOf}
 use Rattle.answers.specs.declared.Answer.{Answer}
-use Rattle.answers.specs.declared.Listed.{Listed}
 use Rattle.answers.specs.declared.Listed.the-variants.{Of, Free}
 use Rattle.answers.specs.declared.Answer.the-variants.{
   Allow,

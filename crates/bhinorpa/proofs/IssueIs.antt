@@ -40,7 +40,7 @@ module _ (table tid kid bytes : List ℕ) where
         let key = keyIn rows tid kid in
         rw (find-finds rows (t .good) tid kid, key-of-row rows (t .good) tid kid, fresh-written scope (firstLink key tid kid (encodeScope scope)) kid tid)
 
-    pub issue-scoped : (scope : Scope) → ScopeOf bytes scope → issueOf table tid kid bytes ≡ pick (hasRow rows tid kid) (handed (tokenText (freshToken rows scope tid kid))) (refused 7)
+    issue-scoped : (scope : Scope) → ScopeOf bytes scope → issueOf table tid kid bytes ≡ pick (hasRow rows tid kid) (handed (tokenText (freshToken rows scope tid kid))) (refused 7)
     issue-scoped scope s =
         let w = scope-written scope (s .good) bytes [] 0 (s .written ∙ sym (append-nil (encodeScope scope))) in
         sym (issue-found table tid kid bytes (good-table table rows t) (w .answer) (omega (arith, ap length (s .written))) refl)

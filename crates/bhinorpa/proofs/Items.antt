@@ -21,7 +21,7 @@ use Rattle.bhinorpa.specs.Handouts.{ScopeOf, CaveatOf}
 use Rattle.bhinorpa.specs.Verdicts.{ScopeDefect, scope-unreadable, scope-left-over, CaveatDefect, caveat-unreadable, caveat-left-over}
 
 -- an item at the front of bytes: it is all of them, or something is left
-pub nothing-left : (bytes item rest : List ℕ) → bytes ≡ item ++ rest → length item ≡ length bytes → rest ≡ []
+nothing-left : (bytes item rest : List ℕ) → bytes ≡ item ++ rest → length item ≡ length bytes → rest ≡ []
 nothing-left bytes item [] e h = refl
 nothing-left bytes item (x ∷ rest) e h = let z : ⊥ = omega (arith, h, ap length e ∙ length-append item (x ∷ rest)) in elim z [ ]
 

@@ -76,7 +76,7 @@ module _ (table text bytes : List ℕ) where
       child = encodeToken (childToken rows token added)
 
       -- what narrow makes of a good parent and a good caveat
-      pub narrow-good : narrowOf table text bytes ≡ pick (leb 64 (length (token .caveats))) (refused 34) (sized (encodeToken (childToken rows token added)))
+      narrow-good : narrowOf table text bytes ≡ pick (leb 64 (length (token .caveats))) (refused 34) (sized (encodeToken (childToken rows token added)))
       narrow-good =
           let key = keyFor rows token in
           let x = encodeCaveat added in
