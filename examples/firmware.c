@@ -6,7 +6,8 @@
  *   METHOD PATH TENANT BODY TOKEN     a service tool asks; BODY is the new count, or "-" for none
  *
  * Each service message is answered with one line: the count, or "refused: " and the reason's name.
- * `firmware < examples/firmware.in` prints examples/firmware.txt. */
+ * `firmware < examples/firmware.in` prints examples/firmware.txt. The status is 0 at the end of the input, or
+ * 2 where a line cannot be read or an answer cannot be written; the loop ends there. */
 #include <stdio.h>
 #include <string.h>
 
@@ -25,15 +26,12 @@ static const char key_table[] = "\x37\0\1\0"
 static const char audience[] = "relay-1";
 static const char count_path[] = "/relay/1/count";
 
-/* How far the module's clock may be off, in seconds. */
-#define SKEW 300
+/* How far the module's clock may be off, in seconds: as far as a request may say. */
+#define SKEW BHINORPA_SKEW_MAX
 
-/* In a request's flags: an audience is stated. */
-#define FLAG_AUDIENCE 4
-
-/* Room for a request with all texts at their longest, and for a line with the longest token. */
-static uint8_t request[19 + (2 + 16) + (2 + 1024) + (2 + 64) + (2 + sizeof audience)];
-static char line[8192];
+/* Room for any request, and for a line with the longest token. */
+static uint8_t request[BHINORPA_REQUEST_MAX];
+static char line[BHINORPA_TEXT_MAX + 2048];
 
 static uint64_t now;
 static uint64_t count;
@@ -44,14 +42,6 @@ struct message {
     const char *tenant;
     const char *body;
     const char *token;
-};
-
-/* By number; verify answers with no other. */
-static const char *const names[] = {
-    "allow", "table.bad", "ctx.bad", "parse.b64", "parse.cbor", "parse.bounds", "schema.unknown_field",
-    "kid.unknown", "mac.mismatch", "tenant.mismatch", "caveat.method", "caveat.path", "caveat.bytes",
-    "caveat.exp", "caveat.nbf", "caveat.aud", "caveat.ip", "caveat.rate", "caveat.tenant", "caveat.amnesia",
-    "caveat.policy_digest", "caveat.custom.unknown"
 };
 
 /* Puts a number in `width` bytes, the lowest first; returns the place behind it. */
@@ -84,11 +74,11 @@ static uint32_t judge(const struct message *message)
     size_t at = put_number(0, now, 8);
     at = put_number(at, strcmp(message->body, "-") == 0 ? 0 : strlen(message->body), 8);
     at = put_number(at, SKEW, 2);
-    at = put_number(at, FLAG_AUDIENCE, 1);
-    at = put_text(at, message->method, 16);
-    at = put_text(at, message->path, 1024);
-    at = put_text(at, message->tenant, 64);
-    at = put_text(at, audience, sizeof audience - 1);
+    at = put_number(at, BHINORPA_FLAG_AUDIENCE, 1);
+    at = put_text(at, message->method, BHINORPA_METHOD_MAX);
+    at = put_text(at, message->path, BHINORPA_PATH_MAX);
+    at = put_text(at, message->tenant, BHINORPA_ID_MAX);
+    at = put_text(at, audience, BHINORPA_AUDIENCE_MAX);
     return bhinorpa_verify((const uint8_t *)key_table, sizeof key_table - 1, request, at,
                            (const uint8_t *)message->token, strlen(message->token));
 }
@@ -110,7 +100,7 @@ static void serve(const struct message *message)
 {
     uint32_t answer = judge(message);
     if (answer != BHINORPA_ALLOW) {
-        printf("refused: %s\n", answer < sizeof names / sizeof names[0] ? names[answer] : "?");
+        printf("refused: %s\n", bhinorpa_name(answer));
         return;
     }
     if (strcmp(message->path, count_path) != 0) {
@@ -132,7 +122,7 @@ static void serve(const struct message *message)
 static void handle(char *text)
 {
     struct message message;
-    const char *word = strtok(text, " \r\n");
+    const char *word = strtok(text, " \r");
     if (word == NULL)
         return;
     if (strcmp(word, "switch") == 0) {
@@ -140,39 +130,65 @@ static void handle(char *text)
         return;
     }
     message.method = word;
-    message.path = strtok(NULL, " \r\n");
+    message.path = strtok(NULL, " \r");
     if (strcmp(word, "clock") == 0) {
         if (message.path == NULL || !read_number(message.path, &now))
             puts("the time is no number");
         return;
     }
-    message.tenant = strtok(NULL, " \r\n");
-    message.body = strtok(NULL, " \r\n");
-    message.token = strtok(NULL, " \r\n");
+    message.tenant = strtok(NULL, " \r");
+    message.body = strtok(NULL, " \r");
+    message.token = strtok(NULL, " \r");
     if (message.path == NULL || message.tenant == NULL || message.body == NULL || message.token == NULL)
         puts("the message is not whole");
     else
         serve(&message);
 }
 
-/* Drops the rest of a line that did not fit, so that it is not taken for a message of its own. */
-static void drop_rest(void)
+/* Reads a line, its end left out. A length that the room does not have means that the line's rest is dropped,
+ * so that it is not taken for a message of its own. A line in which the reading failed is none. */
+static int read_line(size_t *length)
 {
     int c;
-    do
-        c = getchar();
-    while (c != '\n' && c != EOF);
+    *length = 0;
+    while ((c = getchar()) != EOF && c != '\n') {
+        if (*length < sizeof line - 1)
+            line[*length] = (char)c;
+        ++*length;
+    }
+    line[*length < sizeof line ? *length : sizeof line - 1] = '\0';
+    return !ferror(stdin) && (c == '\n' || *length > 0);
+}
+
+/* Sends the answer off, for which the service tool waits. */
+static int sent(void)
+{
+    if (fflush(stdout) == 0 && !ferror(stdout))
+        return 1;
+    perror("firmware: standard output cannot be written");
+    return 0;
 }
 
 int main(void)
 {
-    while (fgets(line, sizeof line, stdin) != NULL) {
-        if (strchr(line, '\n') == NULL && !feof(stdin)) {
-            drop_rest();
+    size_t length;
+    while (read_line(&length)) {
+        if (length >= sizeof line)
             puts("the message is too long");
-        } else {
+        else if (strlen(line) != length)
+            puts("the message is no text");
+        else
             handle(line);
-        }
+        if (!sent())
+            return 2;
+    }
+    if (ferror(stdin)) {
+        perror("firmware: standard input cannot be read");
+        return 2;
+    }
+    if (fclose(stdout) != 0) {
+        perror("firmware: standard output cannot be written");
+        return 2;
     }
     return 0;
 }

@@ -1,7 +1,7 @@
 /* The workshop's tool for tokens: `issue TABLE TID KID EXP` prints two texts, each on a line of its own. The
  * first may GET what lies under /relay/7, with bodies of up to 512 bytes; the second is the first narrowed,
  * so that it expires at EXP, in seconds since 1970. The status is 0, 1 where the library refuses, or 2 where
- * an argument is wrong. */
+ * an argument is wrong, the table cannot be read or a text cannot be written. */
 #include <errno.h>
 #include <stdio.h>
 #include <stdlib.h>
@@ -10,46 +10,30 @@
 #include "bhinorpa.h"
 
 /* One byte more than the longest table has, so that one that is too long is seen as such. */
-static uint8_t table[64 * (4 + 1 + 64 + 1 + 64 + 32) + 1];
+static uint8_t table[BHINORPA_TABLE_MAX + 1];
 
 /* Always enough for a text, a fresh token's and a child's. */
-static uint8_t fresh[5462];
-static uint8_t narrowed[5462];
+static uint8_t fresh[BHINORPA_FRESH_TEXT_MAX];
+static uint8_t narrowed[BHINORPA_TEXT_MAX];
 
 /* A map of three keys. The strings are parted where a hex digit would follow an escape. */
 static const char scope[] = "\xa3\x66prefix\x68/relay/7"
                             "\x67methods\x81\x63GET"
                             "\x69max_bytes\x19\x02\x00";
 
-/* What issue and narrow answer with where they refuse. */
-static const struct {
-    uint32_t answer;
-    const char *name;
-} names[] = {
-    { BHINORPA_TABLE_BAD, "table.bad" },
-    { BHINORPA_PARSE_B64, "parse.b64" },
-    { BHINORPA_PARSE_CBOR, "parse.cbor" },
-    { BHINORPA_PARSE_BOUNDS, "parse.bounds" },
-    { BHINORPA_SCHEMA_UNKNOWN_FIELD, "schema.unknown_field" },
-    { BHINORPA_KID_UNKNOWN, "kid.unknown" },
-    { BHINORPA_MAC_MISMATCH, "mac.mismatch" },
-    { BHINORPA_CAV_CBOR, "cav.cbor" },
-    { BHINORPA_CAV_BOUNDS, "cav.bounds" },
-    { BHINORPA_CAV_UNKNOWN, "cav.unknown" },
-    { BHINORPA_CAV_FULL, "cav.full" },
-    { BHINORPA_SIZE_FULL, "size.full" },
-    { BHINORPA_OUT_SHORT, "out.short" }
-};
-
+/* Reads a file, or as much of it as there is room for; where it cannot, says which one and why. */
 static int read_file(const char *name, uint8_t *room, size_t size, size_t *length)
 {
     FILE *file = fopen(name, "rb");
-    int good;
-    if (file == NULL)
-        return 0;
-    *length = fread(room, 1, size, file);
-    good = !ferror(file);
-    fclose(file);
+    int good = 0;
+    if (file != NULL) {
+        *length = fread(room, 1, size, file);
+        good = !ferror(file);
+    }
+    if (!good)
+        fprintf(stderr, "issue: %s cannot be read: %s\n", name, strerror(errno));
+    if (file != NULL)
+        fclose(file);
     return good;
 }
 
@@ -86,15 +70,22 @@ static size_t put_exp(uint8_t *room, uint64_t exp)
 /* Prints the text that was written, or why there is none. */
 static int told(struct bhinorpa_written written, const uint8_t *room)
 {
-    size_t i = 0;
-    if (written.answer == BHINORPA_DONE) {
-        fwrite(room, 1, written.length, stdout);
-        putchar('\n');
-        return 1;
+    if (written.answer != BHINORPA_DONE) {
+        fprintf(stderr, "issue: %s\n", bhinorpa_name(written.answer));
+        return 0;
     }
-    while (i < sizeof names / sizeof names[0] && names[i].answer != written.answer)
-        i++;
-    fprintf(stderr, "issue: %s\n", i < sizeof names / sizeof names[0] ? names[i].name : "?");
+    fwrite(room, 1, written.length, stdout);
+    putchar('\n');
+    return 1;
+}
+
+/* Ends the output: whether all of it has gone out. What was printed may have waited until now. */
+static int written_out(void)
+{
+    int lost = ferror(stdout);
+    if (fclose(stdout) == 0 && !lost)
+        return 1;
+    perror("issue: standard output cannot be written");
     return 0;
 }
 
@@ -105,10 +96,13 @@ int main(int argc, char **argv)
     size_t caveat_length;
     uint64_t exp;
     struct bhinorpa_written written;
-    if (argc != 5 || !read_file(argv[1], table, sizeof table, &table_length) || !read_number(argv[4], &exp)) {
+    int done;
+    if (argc != 5 || !read_number(argv[4], &exp)) {
         fputs("usage: issue TABLE TID KID EXP, with TABLE a file and EXP a number\n", stderr);
         return 2;
     }
+    if (!read_file(argv[1], table, sizeof table, &table_length))
+        return 2;
     written = bhinorpa_issue(table, table_length, (const uint8_t *)argv[2], strlen(argv[2]),
                              (const uint8_t *)argv[3], strlen(argv[3]), (const uint8_t *)scope,
                              sizeof scope - 1, fresh, sizeof fresh);
@@ -117,5 +111,8 @@ int main(int argc, char **argv)
     caveat_length = put_exp(caveat, exp);
     written = bhinorpa_narrow(table, table_length, fresh, written.length, caveat, caveat_length, narrowed,
                               sizeof narrowed);
-    return told(written, narrowed) ? 0 : 1;
+    done = told(written, narrowed);
+    if (!written_out())
+        return 2;
+    return done ? 0 : 1;
 }
