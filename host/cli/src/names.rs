@@ -6,9 +6,9 @@ pub const ANSWERS: [(u32, &str, &str); 29] = [
     (1, "table.bad", "the key table is malformed"),
     (2, "ctx.bad", "the request is malformed"),
     (3, "parse.b64", "the token's text is not Base64URL without padding"),
-    (4, "parse.cbor", "the token or the scope is malformed"),
-    (5, "parse.bounds", "something in the token or the scope is too long, too short or too large"),
-    (6, "schema.unknown_field", "a key, a kind of caveat or a version that is not known"),
+    (4, "parse.cbor", "the token is malformed"),
+    (5, "parse.bounds", "something in the token is too long, too short, too large or too many"),
+    (6, "schema.unknown_field", "the token has a key, a kind of caveat or a version that is not known"),
     (7, "kid.unknown", "the table has no key under this tid and kid"),
     (8, "mac.mismatch", "the tag is not that of this token under the table's key"),
     (9, "tenant.mismatch", "the request is another tenant's"),
@@ -39,6 +39,12 @@ pub fn name(answer: u32) -> &'static str {
 
 pub fn meaning(answer: u32) -> &'static str {
     ANSWERS.iter().find(|(number, ..)| *number == answer).map_or("?", |(.., meaning)| meaning)
+}
+
+/// What is printed for a token that was judged so.
+pub fn line(answer: u32) -> String {
+    let denied = if answer == 0 { "" } else { "deny " };
+    format!("{denied}{}", name(answer))
 }
 
 #[cfg(test)]

@@ -1,0 +1,153 @@
+//! Files as they are read and written: never more is read than the thing may have, and what is written is whole
+//! in its place or not there at all.
+
+use std::fs::{self, File, Metadata, OpenOptions};
+use std::io::{self, ErrorKind, Read, Write};
+use std::os::unix::fs::MetadataExt;
+use std::path::{Path, PathBuf};
+
+use clap::Args;
+
+use crate::library;
+use crate::problem::{wrong, Done, Problem};
+use crate::standard;
+
+/// The most bytes that each may have.
+pub const TABLE: usize = 64 * (4 + 1 + 64 + 1 + 64 + 32);
+pub const REQUEST: usize = 19 + 4 + 64 + 8 + (2 + 16) + (2 + 1024) + (2 + 64) + (2 + 128);
+pub const TEXT: usize = 5462;
+pub const MESSAGE: usize = 8192;
+pub const BUNDLE: usize = 65_536;
+
+/// How a file is called in messages; '-' stands for standard input.
+pub fn named(file: &Path) -> String {
+    if is_standard(file) { "standard input".to_owned() } else { file.display().to_string() }
+}
+
+fn is_standard(file: &Path) -> bool {
+    file == Path::new("-")
+}
+
+/// Why a call failed, without its number.
+fn said(error: &io::Error) -> String {
+    let all = error.to_string();
+    all.split(" (os error").next().unwrap_or_default().to_owned()
+}
+
+/// The bytes of a file, and one more at most than it may have: that is enough for the library to refuse it.
+pub fn read(file: &Path, most: usize) -> Done<Vec<u8>> {
+    let mut bytes = Vec::new();
+    let limit = most as u64 + 1;
+    let done = if is_standard(file) {
+        standard::input().and_then(|input| input.take(limit).read_to_end(&mut bytes))
+    } else {
+        File::open(file).and_then(|opened| opened.take(limit).read_to_end(&mut bytes))
+    };
+    done.or_else(|error| wrong(format!("{} cannot be read: {}", named(file), said(&error))))?;
+    Ok(bytes)
+}
+
+/// The same of a text on one line. Editors and shells end a file with a newline, which is not part of it, so one
+/// is left out.
+pub fn line(file: &Path, most: usize) -> Done<Vec<u8>> {
+    let mut text = read(file, most + 1)?;
+    if text.last() == Some(&b'\n') {
+        text.pop();
+    }
+    Ok(text)
+}
+
+/// Where what is made goes.
+#[derive(Args, Debug)]
+pub struct Out {
+    /// The file to write, for its owner's eyes alone; without it, or for -, standard output
+    #[arg(long, value_name = "FILE")]
+    pub out: Option<PathBuf>,
+
+    /// Lets --out put another file in the place of a key table
+    #[arg(long, requires = "out")]
+    pub replace: bool,
+}
+
+impl Out {
+    /// The file, where it is none of those that stand for standard output.
+    fn file(&self) -> Option<&Path> {
+        self.out.as_deref().filter(|file| !is_standard(file))
+    }
+
+    /// Writes what was made.
+    pub fn put(&self, bytes: &[u8]) -> Done<()> {
+        self.put_unless(bytes, holds_keys)
+    }
+
+    /// Writes a table, which takes the place of no file but one of those that its rows came from.
+    pub fn put_table(&self, bytes: &[u8], from: &[PathBuf]) -> Done<()> {
+        self.put_unless(bytes, |file| Ok(!from.iter().any(|read| is_same(read, file))))
+    }
+
+    fn put_unless(&self, bytes: &[u8], kept: impl Fn(&Path) -> Done<bool>) -> Done<()> {
+        let Some(file) = self.file() else {
+            return if self.replace { wrong("--replace: standard output has nothing to replace") } else { print(bytes) };
+        };
+        let there = there(file)?;
+        let regular = there.as_ref().map_or(true, Metadata::is_file);
+        if there.is_some() && regular && !self.replace && kept(file)? {
+            return wrong(format!("{} is there and is kept; with --replace it is lost", file.display()));
+        }
+        let done = match there {
+            // A device or a pipe has no place beside it to be renamed from.
+            Some(_) if !regular => OpenOptions::new().write(true).open(file).and_then(|mut open| open.write_all(bytes)),
+            // What a link leads to is replaced, and not the link.
+            Some(_) => fs::canonicalize(file).and_then(|place| write_whole(&place, bytes)),
+            None => write_whole(file, bytes),
+        };
+        done.or_else(|error| wrong(format!("{} cannot be written, and nothing was changed: {}", file.display(), said(&error))))
+    }
+}
+
+/// What stands at a place, if anything does.
+fn there(file: &Path) -> Done<Option<Metadata>> {
+    match fs::metadata(file) {
+        Ok(found) if found.is_dir() => wrong(format!("{} cannot be written: it is a folder", file.display())),
+        Ok(found) => Ok(Some(found)),
+        Err(error) if error.kind() == ErrorKind::NotFound && fs::symlink_metadata(file).is_ok() => {
+            wrong(format!("{} cannot be written: it is a link to nothing", file.display()))
+        }
+        Err(error) if error.kind() == ErrorKind::NotFound => Ok(None),
+        Err(error) => wrong(format!("{} cannot be written: {}", file.display(), said(&error))),
+    }
+}
+
+fn is_same(read: &Path, file: &Path) -> bool {
+    let place = |file: &Path| fs::metadata(file).map(|found| (found.dev(), found.ino())).ok();
+    !is_standard(read) && place(read).is_some() && place(read) == place(file)
+}
+
+/// Whether a file is a table that has a row: whoever wrote a token over it would have lost the keys.
+fn holds_keys(file: &Path) -> Done<bool> {
+    let held = read(file, TABLE)?;
+    Ok(!held.is_empty() && library::table_is_good(&held))
+}
+
+/// Written beside its place, synced and renamed: at no moment is there half a file. The new file is its
+/// owner's alone.
+fn write_whole(place: &Path, bytes: &[u8]) -> io::Result<()> {
+    let folder = place.parent().filter(|folder| !folder.as_os_str().is_empty()).unwrap_or(Path::new("."));
+    let mut beside = tempfile::Builder::new().prefix(".bhinorpa-").tempfile_in(folder)?;
+    beside.write_all(bytes)?;
+    beside.as_file().sync_all()?;
+    beside.persist(place)?;
+    // The rename itself is on the disk once the folder is; where a folder cannot be synced, that is all there is.
+    let _ = File::open(folder).and_then(|folder| folder.sync_all());
+    Ok(())
+}
+
+/// To standard output, and out of the buffer that would be lost in silence.
+pub fn print(bytes: &[u8]) -> Done<()> {
+    let done = standard::output().and_then(|mut output| output.write_all(bytes).and_then(|()| output.flush()));
+    match done {
+        Err(error) if error.kind() == ErrorKind::BrokenPipe => Err(Problem::Unread),
+        Err(error) => wrong(format!("standard output cannot be written: {}", said(&error))),
+        Ok(()) => Ok(()),
+    }
+}

@@ -1,0 +1,74 @@
+//! What is wrong with a command line, in one sentence that names the option and its value.
+
+use std::error::Error as _;
+
+use clap::error::{ContextKind, ContextValue, ErrorKind};
+use clap::Error;
+
+use crate::values::said as said_value;
+
+/// One sentence for an error of the command line.
+pub fn said(error: &Error) -> String {
+    let arg = names(error, ContextKind::InvalidArg);
+    let value = said_value(&texts(error, ContextKind::InvalidValue).join(" "));
+    match error.kind() {
+        ErrorKind::ArgumentConflict => {
+            let prior = names(error, ContextKind::PriorArg);
+            if prior == arg {
+                return format!("{arg} stands twice, and may stand once");
+            }
+            format!("{arg} and {prior} cannot stand together")
+        }
+        ErrorKind::MissingRequiredArgument => format!("{arg} is missing"),
+        ErrorKind::ValueValidation => {
+            let why = error.source().map(ToString::to_string).unwrap_or_default();
+            format!("{arg} {value}: {why}")
+        }
+        ErrorKind::InvalidValue if texts(error, ContextKind::ValidValue).is_empty() => format!("{arg} needs a value"),
+        ErrorKind::InvalidValue => {
+            let known = texts(error, ContextKind::ValidValue).join(", ");
+            format!("{arg} {value}: one of these is needed: {known}")
+        }
+        ErrorKind::TooManyValues => format!("{arg} takes no value, and {value} stands there"),
+        ErrorKind::UnknownArgument => {
+            let near = texts(error, ContextKind::SuggestedArg).join(" ");
+            let near = if near.is_empty() { near } else { format!("; there is {near}") };
+            format!("{arg} is no word of this verb{near}")
+        }
+        ErrorKind::InvalidSubcommand => {
+            format!("there is no verb {}", texts(error, ContextKind::InvalidSubcommand).join(" "))
+        }
+        ErrorKind::MissingSubcommand | ErrorKind::DisplayHelpOnMissingArgumentOrSubcommand => {
+            "a verb is missing".to_owned()
+        }
+        ErrorKind::InvalidUtf8 => "a word is not UTF-8".to_owned(),
+        _ => first_line(error),
+    }
+}
+
+fn first_line(error: &Error) -> String {
+    let all = error.to_string();
+    all.lines().next().unwrap_or_default().trim_start_matches("error: ").to_owned()
+}
+
+fn texts(error: &Error, kind: ContextKind) -> Vec<String> {
+    match error.context().find(|(known, _)| *known == kind).map(|(_, value)| value) {
+        Some(ContextValue::String(text)) => vec![text.clone()],
+        Some(ContextValue::Strings(texts)) => texts.clone(),
+        _ => vec![],
+    }
+}
+
+/// The options' names without what their values are called; of a group, which is written <--a <A>|--b <B>>, all.
+fn names(error: &Error, kind: ContextKind) -> String {
+    let names = texts(error, kind);
+    let cut = |name: &str| {
+        let name = name.split(' ').next().unwrap_or_default();
+        name.trim_start_matches('<').trim_end_matches('>').trim_end_matches("...").to_owned()
+    };
+    let of_one = |name: &String| match name.starts_with("<--") {
+        true => name.split('|').map(cut).collect::<Vec<_>>().join(" or "),
+        false => cut(name),
+    };
+    names.iter().map(of_one).collect::<Vec<_>>().join(", ")
+}
