@@ -6,7 +6,7 @@ fn main() {
     let root = Path::new(env!("CARGO_MANIFEST_DIR")).join("../..");
     let folder = root.join("target/staticlib");
     println!("cargo:rustc-link-search=native={}", folder.display());
-    for name in ["bhinorpa", "keyed_hash", "probe", "probe_parts", "probe_records"] {
+    for name in ["bhinorpa", "keyed_hash"] {
         println!("cargo:rustc-link-lib=static={name}");
         println!("cargo:rerun-if-changed={}", folder.join(format!("lib{name}.a")).display());
     }

@@ -1,7 +1,7 @@
 //! The proved readers beside the second program's. Each call asks both about one input, compares all
 //! that is promised of the answer, and counts.
 
-use archive::{Key, Parts, Probed, RequestParts};
+use probes::{Key, Parts, Probed, RequestParts};
 use second::cbor::{Class, Defect, PARSE_BOUNDS, PARSE_CBOR, UNKNOWN_FIELD};
 use second::token::Fields;
 use second::{base64url, caveat, cbor, cidr, request, scope, table, token, values};
@@ -60,53 +60,53 @@ impl Beside {
     }
 
     pub fn head(&mut self, s: &[u8], at: usize) {
-        let proved = said(archive::read_head(s, at), 3);
+        let proved = said(probes::read_head(s, at), 3);
         let wanted = cbor::head(s, at).map(|head| [head.value, head.next as u64, u64::from(head.major)]);
         self.compare(proved, wanted.map_err(told), || format!("head at {at} of {}", hex(s)));
     }
 
     pub fn run(&mut self, s: &[u8], at: usize, major: u8, low: u64, high: u64) {
-        let proved = said(archive::read_run(s, at, major, low, high), 2);
+        let proved = said(probes::read_run(s, at, major, low, high), 2);
         let wanted = cbor::run(s, at, major, low, high).map(ends).map_err(told);
         self.compare(proved, wanted, || format!("run at {at}, major {major}, {low} to {high}, of {}", hex(s)));
     }
 
     pub fn string(&mut self, s: &[u8], at: usize, class: u32, low: u64, high: u64) {
-        let proved = said(archive::read_string(s, at, class, low, high), 2);
+        let proved = said(probes::read_string(s, at, class, low, high), 2);
         let wanted = cbor::string(s, at, class_of(class), low, high).map(ends).map_err(told);
         self.compare(proved, wanted, || format!("string at {at}, class {class}, {low} to {high}, of {}", hex(s)));
     }
 
     pub fn value(&mut self, s: &[u8], at: usize, depth: u8) {
-        let proved = said(archive::read_value(s, at, depth), 1);
+        let proved = said(probes::read_value(s, at, depth), 1);
         let wanted = values::value(s, at, depth).map(|next| [next as u64, 0, 0]).map_err(told);
         self.compare(proved, wanted, || format!("value at {at}, {depth} deep, of {}", hex(s)));
     }
 
     pub fn cidr(&mut self, text: &[u8]) {
-        let proved = said(archive::read_cidr(text), 3);
+        let proved = said(probes::read_cidr(text), 3);
         let wanted = cidr::read(text).map(|prefix| [u64::from(prefix.address), u64::from(prefix.size), 0]);
         self.compare(proved, wanted.ok_or((PARSE_CBOR, 0)), || format!("prefix {}", hex(text)));
     }
 
     pub fn scope(&mut self, s: &[u8], at: usize) {
         let wanted = scope::read(s, at).map(scope_numbers);
-        self.parts(archive::read_scope(s, at), wanted, || format!("scope at {at} of {}", hex(s)));
+        self.parts(probes::read_scope(s, at), wanted, || format!("scope at {at} of {}", hex(s)));
     }
 
     pub fn caveat(&mut self, s: &[u8]) {
         let wanted = caveat::read(s, 0).map(caveat_numbers);
-        self.parts(archive::read_caveat(s), wanted, || format!("caveat {}", hex(s)));
+        self.parts(probes::read_caveat(s), wanted, || format!("caveat {}", hex(s)));
     }
 
     pub fn token(&mut self, s: &[u8]) {
         let wanted = token::read(s).map(token_numbers);
-        self.parts(archive::read_token(s), wanted, || format!("token {}", hex(s)));
+        self.parts(probes::read_token(s), wanted, || format!("token {}", hex(s)));
     }
 
     pub fn table(&mut self, table: &[u8]) {
         let good = table::read(table).is_some();
-        assert_eq!(archive::table_ok(table), u32::from(good), "table {}", hex(table));
+        assert_eq!(probes::table_ok(table), u32::from(good), "table {}", hex(table));
         self.compared += 1;
         self.taken += usize::from(good);
     }
@@ -118,7 +118,7 @@ impl Beside {
         if let Some(key) = key {
             wanted.bytes.copy_from_slice(key);
         }
-        let proved = archive::lookup(table, tid, kid);
+        let proved = probes::lookup(table, tid, kid);
         assert_eq!(proved, wanted, "{} and {} in table {}", hex(tid), hex(kid), hex(table));
         self.compared += 1;
         self.taken += usize::from(key.is_some());
@@ -129,7 +129,7 @@ impl Beside {
             Some(request) => RequestParts { kind: 0, numbers: request_numbers(&request) },
             None => RequestParts { kind: CTX_BAD, numbers: [0; 20] },
         };
-        assert_eq!(archive::read_request(s), wanted, "request {}", hex(s));
+        assert_eq!(probes::read_request(s), wanted, "request {}", hex(s));
         self.compared += 1;
         self.taken += usize::from(wanted.kind == 0);
     }
@@ -158,7 +158,7 @@ impl Beside {
     /// taken.
     pub fn write(&mut self, fields: &Fields, length: usize) {
         let (mut room, mut wanted) = (pattern(length), pattern(length));
-        let proved = archive::write_token(&same_fields(fields), &mut room);
+        let proved = probes::write_token(&same_fields(fields), &mut room);
         let (_, written) = answered(&token::write(fields), &mut wanted);
         assert_eq!(proved, written, "{fields:02x?} into {length} bytes");
         assert_eq!(room, wanted, "room of {length} bytes behind {fields:02x?}");
@@ -168,7 +168,7 @@ impl Beside {
 
     /// What agrees counts as taken.
     pub fn first_bits(&mut self, x: &[u8], y: &[u8], n: u32) {
-        let proved = archive::first_bits_agree(x, y, n);
+        let proved = probes::first_bits_agree(x, y, n);
         let agree = cidr::first_bits_agree(x, y, n);
         let wanted = Probed { kind: 0, first: u64::from(agree), second: 0, third: 0 };
         assert_eq!(proved, wanted, "first {n} bits of {} and {}", hex(x), hex(y));
@@ -185,7 +185,7 @@ impl Beside {
     /// Decodes into a room of `length` bytes and looks at all of it.
     pub fn decode(&mut self, text: &[u8], length: usize) {
         let (mut room, mut wanted) = (pattern(length), pattern(length));
-        let proved = answer(archive::decode(text, &mut room));
+        let proved = answer(probes::decode(text, &mut room));
         let good = match base64url::decode(text) {
             Ok(bytes) => answered(&bytes, &mut wanted),
             // A defect of the text is told before a room that is too short.
@@ -200,7 +200,7 @@ impl Beside {
     /// Encodes into a room of `length` bytes and looks at all of it.
     pub fn encode(&mut self, bytes: &[u8], length: usize) {
         let (mut room, mut wanted) = (pattern(length), pattern(length));
-        let proved = answer(archive::encode(bytes, &mut room));
+        let proved = answer(probes::encode(bytes, &mut room));
         let good = answered(&base64url::encode(bytes), &mut wanted);
         assert_eq!(proved, good, "bytes {} into {length} characters", hex(bytes));
         assert_eq!(room, wanted, "room of {length} characters behind the bytes {}", hex(bytes));
@@ -209,9 +209,9 @@ impl Beside {
     }
 }
 
-fn same_fields<'a>(fields: &Fields<'a>) -> archive::Fields<'a> {
+fn same_fields<'a>(fields: &Fields<'a>) -> probes::Fields<'a> {
     let Fields { count, caveats, caveat, scope, tag, kid, tid } = *fields;
-    archive::Fields { count, caveats, caveat, scope, tag, kid, tid }
+    probes::Fields { count, caveats, caveat, scope, tag, kid, tid }
 }
 
 /// The numbers that a reader promises; what it promises nothing of is not looked at.

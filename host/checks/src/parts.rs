@@ -1,4 +1,4 @@
-//! What the second program reads, in the numbers that the archive's probes hand out: ten of a scope, a
+//! What the second program reads, in the numbers that the probes hand out: ten of a scope, a
 //! caveat or a token, twenty of a request. Numbers that mean nothing are 0.
 
 use second::caveat::{Caveat, Demand};

@@ -6,7 +6,7 @@ use crate::strings::{digest, method, name, path, printable};
 use crate::tree::Node;
 use crate::Seeded;
 
-/// The names of the twelve kinds of caveats, in the order in which the archive's probe numbers them.
+/// The names of the twelve kinds of caveats, in the order in which the probe numbers them.
 pub const KINDS: [&str; 12] = [
     "exp", "nbf", "aud", "method", "path_prefix", "ip_cidr", "bytes_le", "rate", "tenant", "amnesia",
     "gov_policy_digest", "custom",

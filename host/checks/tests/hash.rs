@@ -1,7 +1,8 @@
 //! The proved keyed hash beside the official blake3 crate.
 
-use archive::{keyed_hash, keyed_hash_joined, Hashed};
+use archive::{keyed_hash, Hashed};
 use checks::Seeded;
+use probes::keyed_hash_joined;
 
 const LIMIT: usize = 8192;
 const REFUSED: Hashed = Hashed { answer: 37, bytes: [0; 32] };

@@ -239,8 +239,8 @@ fn tags_and_names_of_every_length() {
 
 /// A caveat in the middle of a token, good or not, and the same read where it lies.
 fn in_the_middle(token: &[u8], at: usize) -> bool {
-    let alone = archive::read_caveat(&token[at..]);
-    let whole = archive::read_token(token);
+    let alone = probes::read_caveat(&token[at..]);
+    let whole = probes::read_token(token);
     if alone.kind != 0 {
         assert_eq!((whole.kind, whole.numbers[0]), (alone.kind, alone.numbers[0] + at as u64));
     }
@@ -275,17 +275,17 @@ fn the_caveats_of_a_token_end_where_it_says() {
     for _ in 0..2000 {
         let tree = some(&mut seeded);
         let (caveats, token) = (&tree.items[1].items, tree.laid());
-        let read = archive::read_token(&token);
+        let read = probes::read_token(&token);
         let [count, mut at, end, scope, behind, ..] = read.numbers.map(|number| number as usize);
         assert_eq!((read.kind, count), (0, caveats.len()));
         for caveat in caveats {
-            let alone = archive::read_caveat(&caveat.laid());
-            assert_eq!(archive::read_caveat(&token[at..]), alone);
+            let alone = probes::read_caveat(&caveat.laid());
+            assert_eq!(probes::read_caveat(&token[at..]), alone);
             assert_eq!(alone.kind, 0);
             at += alone.numbers[9] as usize;
         }
         assert_eq!(at, end);
-        assert_eq!(archive::read_scope(&token, scope).numbers[7] as usize, behind);
+        assert_eq!(probes::read_scope(&token, scope).numbers[7] as usize, behind);
     }
 }
 
