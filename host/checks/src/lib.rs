@@ -21,6 +21,7 @@ pub mod strings;
 pub mod tables;
 pub mod tree;
 pub mod trees;
+pub mod vectors;
 pub mod verdicts;
 
 /// SplitMix64.
