@@ -6,7 +6,6 @@ use std::path::{Path, PathBuf};
 use std::process::{Command, Output, Stdio};
 
 use checks::bundles::{Bundle, REQUEST, TABLE, TOKEN};
-use checks::judges::Judge;
 use checks::samples;
 
 const UNREAD: &str = "judge: standard input could not be read";
@@ -56,7 +55,10 @@ fn folder() -> PathBuf {
     folder
 }
 
+/// Where the program is missing this says so, instead of proving it all first.
 fn run(shell: &str, folder: &Path) -> Output {
+    let program = root().join("target/bin/judge");
+    assert!(program.is_file(), "there is no program {}: `rt check judge` makes it", program.display());
     let mut command = Command::new("bash");
     command.args(["-c", shell]).env("J", root().join("tools/judge")).current_dir(folder);
     command.stdin(Stdio::null()).output().expect("bash starts")
@@ -129,15 +131,12 @@ fn failing() -> Vec<Case> {
 
 #[test]
 fn lines_messages_and_statuses() {
-    // Where the program is missing this says so, instead of proving it all first.
-    Judge::new("judge_tool");
     let folder = folder();
     held(judged().into_iter().chain(refused()).chain(failing()), &folder);
 }
 
 #[test]
 fn without_a_name_it_judges_the_sample() {
-    Judge::new("judge_tool");
     let lines = fs::read_to_string(root().join("examples/sample.txt")).expect("examples/sample.txt");
     let output = run("$J", root());
     assert_eq!((String::from_utf8_lossy(&output.stdout), output.status.code()), (lines.into(), Some(1)));
