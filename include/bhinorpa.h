@@ -7,10 +7,11 @@
  *   - no other thread writes to any of them meanwhile, and none reads the room.
  * Nothing else is asked: any bytes of any length may come in, and every call returns.
  *
- * Link target/staticlib/libbhinorpa.a for bhinorpa_verify, bhinorpa_issue and bhinorpa_narrow, and
- * target/staticlib/libkeyed_hash.a for bhinorpa_keyed_hash (tools/archives makes both; either may be linked
- * alone, or both together), and the C library, of which both need memcpy and memset and nothing else. No
- * heap, no files, no clock and no state from one call to the next: all the work room is on the stack.
+ * Link libbhinorpa.a for bhinorpa_verify, bhinorpa_issue and bhinorpa_narrow, and libkeyed_hash.a for
+ * bhinorpa_keyed_hash; either may be linked alone, or both together. tools/archives makes them in
+ * target/staticlib; where tools/install has put them, pkg-config --cflags --libs bhinorpa says how to build.
+ * Both need memcpy and memset of the C library and nothing else. No heap, no files, no clock and no state
+ * from one call to the next: all the work room is on the stack.
  */
 #ifndef BHINORPA_H
 #define BHINORPA_H
