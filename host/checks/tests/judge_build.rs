@@ -109,3 +109,11 @@ fn a_build_that_fails() {
     let refused = format!("{BUILT}judge: the program could not be proved and built\n");
     assert_eq!(run("touch refuse && tools/judge bundle", &folder), (String::new(), refused, Some(2)));
 }
+
+#[test]
+fn without_the_kit_it_says_so() {
+    let folder = repository("without");
+    let said = "judge: the Rattle kit is needed to build this: rt is not on the path (README, 'The kit')\n";
+    let shell = "rm bin/rt && PATH=/usr/bin:/bin tools/judge bundle";
+    assert_eq!(run(shell, &folder), (String::new(), said.to_owned(), Some(2)));
+}
