@@ -114,6 +114,8 @@ fn a_build_that_fails() {
 fn without_the_kit_it_says_so() {
     let folder = repository("without");
     let said = "judge: the Rattle kit is needed to build this: rt is not on the path (README, 'The kit')\n";
-    let shell = "rm bin/rt && PATH=/usr/bin:/bin tools/judge bundle";
-    assert_eq!(run(shell, &folder), (String::new(), said.to_owned(), Some(2)));
+    // A path of its own: wherever a machine has rt, it is not there.
+    let needed = "bash dirname basename awk find uname mktemp rm cat touch grep";
+    let shell = format!("rm bin/rt; for name in {needed}; do ln -s $(command -v $name) bin/; done; PATH=$PWD/bin tools/judge bundle");
+    assert_eq!(run(&shell, &folder), (String::new(), said.to_owned(), Some(2)));
 }
