@@ -7,12 +7,8 @@
 #include <stdlib.h>
 #include <string.h>
 
+#include "../samples.h"
 #include "bhinorpa.h"
-
-struct bytes {
-    uint8_t at[16384];
-    size_t length;
-};
 
 static struct bytes table;
 static struct bytes request;
@@ -43,20 +39,6 @@ static void put_text(struct bytes *to, const char *text)
 {
     memcpy(to->at + to->length, text, strlen(text));
     to->length += strlen(text);
-}
-
-static void load(struct bytes *bytes, const char *folder, const char *name)
-{
-    char path[4096];
-    FILE *opened;
-    snprintf(path, sizeof path, "%s/%s", folder, name);
-    opened = fopen(path, "rb");
-    if (opened == NULL) {
-        fprintf(stderr, "limits: %s cannot be read\n", path);
-        exit(2);
-    }
-    bytes->length = fread(bytes->at, 1, sizeof bytes->at, opened);
-    fclose(opened);
 }
 
 /* A record with the longest ids; the last byte of kid is all that tells it from the others. */

@@ -9,12 +9,8 @@
 #include <string.h>
 #include <ucontext.h>
 
+#include "../samples.h"
 #include "bhinorpa.h"
-
-struct bytes {
-    uint8_t at[8200];
-    size_t length;
-};
 
 /* What the functions are called with, set before each call. */
 static struct bytes table;
@@ -80,20 +76,6 @@ static size_t depth(void (*call)(void))
     size_t first = depth_over(call, 0xa5);
     size_t second = depth_over(call, 0x3c);
     return first > second ? first : second;
-}
-
-static void load(struct bytes *bytes, const char *folder, const char *name)
-{
-    char path[4096];
-    FILE *opened;
-    snprintf(path, sizeof path, "%s/%s", folder, name);
-    opened = fopen(path, "rb");
-    if (opened == NULL) {
-        fprintf(stderr, "stack: %s cannot be read\n", path);
-        exit(2);
-    }
-    bytes->length = fread(bytes->at, 1, sizeof bytes->at, opened);
-    fclose(opened);
 }
 
 static const char *const tables[] = { "table", "table.cut", "table.empty" };

@@ -11,12 +11,12 @@ use crate::tree::Node;
 use crate::trees::{caveat_of, rate};
 
 /// The first second of 2026, in UTC.
-const NEW_YEAR: u64 = 1_767_225_600;
+pub const NEW_YEAR: u64 = 1_767_225_600;
 
 /// How many seconds a day has.
 const DAY: u64 = 86_400;
 
-const DIGEST: &[u8; 64] = b"9f86d081884c7d659a2feaa0c55ad015a3bf4f1b2b0b822cd15d6c15b0f00a08";
+pub const DIGEST: &[u8; 64] = b"9f86d081884c7d659a2feaa0c55ad015a3bf4f1b2b0b822cd15d6c15b0f00a08";
 
 /// Keys by tenant, name and the byte that this sample's keys are made of. The workshop's is a year old, and
 /// no table has it any more.
@@ -203,7 +203,7 @@ fn request(request: Request) -> Step {
 }
 
 /// The workshop reads the count of relay 1 at the new year, with a body of 16 bytes.
-fn read_count() -> Request {
+pub fn read_count() -> Request {
     Request {
         now: NEW_YEAR,
         body_size: 16,

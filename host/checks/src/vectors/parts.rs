@@ -2,21 +2,15 @@
 //! and the ways in which a case differs from them. Tags are right for the bytes as they lie, good or not, so
 //! that a reader that lets a defect pass does not end at the tag.
 
-use second::request::Rate;
-
 use crate::cases::{Case, Triple};
 use crate::requests::Request;
+pub use crate::sample_bundle::{read_count as request, DIGEST, NEW_YEAR};
 use crate::tables::Row;
 use crate::tree::Node;
 use crate::trees::caveat_of;
 
 /// The key of the published BLAKE3 vectors.
 pub const KEY: &[u8; 32] = b"whats the Elvish word for friend";
-
-/// The first second of 2026, in UTC.
-pub const NEW_YEAR: u64 = 1_767_225_600;
-
-pub const DIGEST: &[u8; 64] = b"9f86d081884c7d659a2feaa0c55ad015a3bf4f1b2b0b822cd15d6c15b0f00a08";
 
 pub const TOKEN_KEYS: [&str; 6] = ["c", "r", "s", "v", "kid", "tid"];
 
@@ -41,23 +35,6 @@ pub fn rows() -> Vec<Row> {
     let contractor = Row { key: vec![3; 32], ..row("contractor", "kid-2025-11") };
     let last_month = Row { key: vec![2; 32], ..row("workshop", "kid-2025-09") };
     vec![contractor, last_month, row("workshop", "kid-2025-10")]
-}
-
-/// The workshop reads the count of relay 1 at the new year, with a body of 16 bytes.
-pub fn request() -> Request {
-    Request {
-        now: NEW_YEAR,
-        body_size: 16,
-        skew: 300,
-        amnesia: false,
-        peer: Some([10, 1, 2, 3]),
-        digest: Some(DIGEST.to_vec()),
-        rate: Some(Rate { per_s: 5, burst: 10 }),
-        method: b"GET".to_vec(),
-        path: b"/relay/1/count".to_vec(),
-        tenant: b"workshop".to_vec(),
-        audience: Some(b"relay-1".to_vec()),
-    }
 }
 
 /// GET and PUT under /relay/1 with bodies of up to 512 bytes.
