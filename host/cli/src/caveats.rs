@@ -109,6 +109,23 @@ impl Caveat {
 #[derive(Clone, Debug)]
 pub struct Caveats(pub Vec<Caveat>);
 
+impl Caveats {
+    /// The same with nothing left in files.
+    pub fn read(&self) -> Done<Caveats> {
+        let read = |caveat: &Caveat| {
+            let value = match &caveat.value {
+                Value::Whole(hex) => Value::Whole(hex.read(caveat.option)?),
+                Value::Custom(custom) => {
+                    Value::Custom(Custom { value: custom.value.read(caveat.option)?, ..custom.clone() })
+                }
+                other => other.clone(),
+            };
+            Ok(Caveat { value, ..caveat.clone() })
+        };
+        self.0.iter().map(read).collect::<Done<_>>().map(Caveats)
+    }
+}
+
 impl FromArgMatches for Caveats {
     fn from_arg_matches(matches: &ArgMatches) -> Result<Caveats, clap::Error> {
         Ok(Caveats(order::of(matches, &OPTIONS.map(|(option, ..)| option))))

@@ -44,12 +44,13 @@ fn methods_taken(list: &[String]) -> bool {
     scope_answer(&scope_of(&ScopeWords { methods, ..ScopeWords::default() })) == 0
 }
 
+/// The count is judged before any method is.
 fn methods_fault(option: &str, list: &[String]) -> Fault {
+    if !methods_taken(&vec!["A".to_owned(); list.len()]) {
+        return Some((format!("--{option} {}", said(&list.join(","))), METHODS));
+    }
     let bad = list.iter().find(|&method| !methods_taken(&[method.clone()]));
-    bad.map(|method| (format!("--{option} {}", said(method)), METHOD)).or_else(|| {
-        let long = !methods_taken(list);
-        long.then(|| (format!("--{option} {}", list.join(",")), METHODS))
-    })
+    bad.map(|method| (format!("--{option} {}", said(method)), METHOD))
 }
 
 pub fn scope<T>(words: &ScopeWords, answer: u32) -> Done<T> {
@@ -86,8 +87,11 @@ pub fn request<T>(words: &RequestWords, answer: u32) -> Done<T> {
         ("aud", &words.aud, AUDIENCE, RequestWords { aud: words.aud.clone(), ..plain() }),
     ];
     let fault = words_alone.into_iter().find(|(_, value, _, alone)| value.is_some() && !taken(alone.clone()));
-    let word = |option: &str, value: &Option<String>| format!("--{option} {}", said(value.as_deref().unwrap_or_default()));
-    told(answer, fault.map(|(option, value, rule, _)| (word(option, value), rule)), "the request")
+    let fault = fault.map(|(option, value, rule, _)| {
+        let value = value.as_deref().unwrap_or_default();
+        (format!("--{option} {}", said(value)), rule)
+    });
+    told(answer, fault, "the request")
 }
 
 /// Why rows make no table.
@@ -130,7 +134,7 @@ pub fn ids<T>(tid: &str, kid: &str, table: &str, answer: u32) -> Done<T> {
 pub fn caveat<T>(caveat: &Caveat, what: &str, answer: u32) -> Done<T> {
     let rule = match &caveat.value {
         Value::Methods(list) => methods_fault(caveat.option, &list.0).map(|(_, rule)| rule),
-        Value::Custom(custom) => Some(custom_rule(custom)),
+        Value::Custom(custom) => custom_rule(custom),
         Value::Text(_) => match caveat.option {
             "aud" => Some(AUDIENCE),
             "path-prefix" => Some(PREFIX),
@@ -146,12 +150,20 @@ pub fn caveat<T>(caveat: &Caveat, what: &str, answer: u32) -> Done<T> {
     refused(answer, what, rule.filter(|_| own))
 }
 
-fn custom_rule(Custom { ns, name, .. }: &Custom) -> &'static str {
-    let taken = |ns: &str, name: &str| {
-        let v = items::map(&[("ns", items::text(ns)), ("cbor", items::truth(true)), ("name", items::text(name))]);
-        caveat_answer(&items::map(&[("t", items::text("custom")), ("v", v)])) == 0
+/// In the order of the value's bytes: ns, cbor, name.
+fn custom_rule(Custom { ns, name, value }: &Custom) -> Option<&'static str> {
+    let refused = |ns: &str, value: Vec<u8>, name: &str| {
+        let v = items::map(&[("ns", items::text(ns)), ("cbor", value), ("name", items::text(name))]);
+        caveat_answer(&items::map(&[("t", items::text("custom")), ("v", v)])) != 0
     };
-    if taken(ns, name) { CUSTOM } else { NAME }
+    let value = value.bytes("custom").unwrap_or_default();
+    if refused(ns, items::truth(true), "n") {
+        return Some(NAME);
+    }
+    if refused("n", value, "n") {
+        return Some(CUSTOM);
+    }
+    refused("n", items::truth(true), name).then_some(NAME)
 }
 
 /// Why a token's text is refused, or its key or tag by a table; `what` says which token it is.

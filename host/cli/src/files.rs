@@ -96,7 +96,9 @@ impl Out {
         }
         let done = match there {
             // A device or a pipe has no place beside it to be renamed from.
-            Some(_) if !regular => OpenOptions::new().write(true).open(file).and_then(|mut open| open.write_all(bytes)),
+            Some(_) if !regular => {
+                OpenOptions::new().write(true).open(file).and_then(|mut open| open.write_all(bytes))
+            }
             // What a link leads to is replaced, and not the link.
             Some(_) => fs::canonicalize(file).and_then(|place| write_whole(&place, bytes)),
             None => write_whole(file, bytes),

@@ -94,7 +94,9 @@ mod tests {
     #[test]
     fn spans_from_now_on() {
         let now = this_moment().expect("a clock");
-        for (text, span) in [("+0s", 0), ("+90s", 90), ("+5m", 300), ("+1h", 3_600), ("+30d", 2_592_000), ("+1w", 604_800)] {
+        let spans =
+            [("+0s", 0), ("+90s", 90), ("+5m", 300), ("+1h", 3_600), ("+30d", 2_592_000), ("+1w", 604_800)];
+        for (text, span) in spans {
             let read = read(text).expect(text);
             assert!((now + span..now + span + 60).contains(&read), "{text}");
         }

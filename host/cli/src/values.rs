@@ -33,6 +33,11 @@ impl FromStr for Hex {
 }
 
 impl Hex {
+    /// With the bytes of its file in the place of the file, which may be readable once only.
+    pub fn read(&self, option: &str) -> Done<Hex> {
+        self.bytes(option).map(Hex::Digits)
+    }
+
     /// The bytes; `option` is named where its file does not have them.
     pub fn bytes(&self, option: &str) -> Done<Vec<u8>> {
         let file = match self {

@@ -57,7 +57,7 @@ fn scope(words: &ScopeVerb) -> Done<()> {
 
 fn caveat(words: &CaveatVerb) -> Done<()> {
     let mut lines = String::new();
-    for (place, caveat) in numbered(&words.caveats)? {
+    for (place, caveat) in numbered(&words.caveats.read()?)? {
         let bytes = caveat.bytes()?;
         let answer = library::caveat_answer(&bytes);
         if answer != 0 {
@@ -111,7 +111,7 @@ fn narrow(words: &NarrowWords) -> Done<()> {
 
 /// Narrows a token by caveats, one after the other, and writes its text. `names` are the token's and the table's.
 fn hand_out(table: &[u8], mut token: Vec<u8>, names: (&str, &str), caveats: &Caveats, out: &files::Out) -> Done<()> {
-    for (place, caveat) in numbered(caveats)? {
+    for (place, caveat) in numbered(&caveats.read()?)? {
         token = match library::narrow(table, &token, &caveat.bytes()?) {
             Ok(child) => child,
             // Up to the tag the answer is about the token or the table, and behind it about the caveat.
@@ -147,7 +147,9 @@ fn verify(words: &VerifyWords) -> Done<u8> {
         0 => return Ok(0),
         CTX_BAD if words.file.is_none() => explain::request(&words.request, answer),
         CTX_BAD => refused(answer, "the request of --request", None),
-        ..=MAC_MISMATCH => explain::token(&token, &what, &format!("the table in {}", files::named(&words.table)), answer),
+        ..=MAC_MISMATCH => {
+            explain::token(&token, &what, &format!("the table in {}", files::named(&words.table)), answer)
+        }
         // The rest is the request's or the time's doing, and the line says it.
         _ => return Ok(1),
     };

@@ -34,7 +34,8 @@ pub const EXAMPLES: [(&str, &str); 11] = [
     ("caveat", "bhinorpa caveat --exp 2026-01-01T00:00:00Z"),
     (
         "issue",
-        "bhinorpa issue --table keys --tid workshop --kid kid-2025-10 --methods GET,PUT --prefix /relay/1 --exp +30d --out token",
+        "bhinorpa issue --table keys --tid workshop --kid kid-2025-10 --methods GET,PUT --prefix /relay/1 \
+         --exp +30d --out token",
     ),
     ("narrow", "bhinorpa narrow --table keys --token token --method GET --ip-cidr 10.0.0.0/8 --out child"),
     ("request", "bhinorpa request --method GET --path /relay/1/count --tenant workshop --peer 10.1.2.3 --out asked"),

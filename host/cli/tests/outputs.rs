@@ -58,7 +58,8 @@ fn what_cannot_be_written_is_said() {
 fn a_device_is_written_as_it_is() {
     let folder = with_token("devices");
     let (status, _, said) = folder.call("scope --methods GET --out /dev/full");
-    assert_eq!((status, said.lines().next()), (2, Some("bhinorpa: /dev/full cannot be written, and nothing was changed: No space left on device")));
+    let full = "bhinorpa: /dev/full cannot be written, and nothing was changed: No space left on device\n";
+    assert_eq!((status, said.as_str()), (2, full));
     assert_eq!(folder.call("scope --methods GET --out /dev/null"), (0, String::new(), String::new()));
     assert_eq!(folder.call("scope --methods GET --out /dev/stdout | cat").1, "a1676d6574686f64738163474554\n");
     let is_device = |name: &str| !fs::metadata(name).unwrap().is_file();
@@ -86,7 +87,8 @@ fn a_full_file_system_leaves_the_old_file() {
     let folder = with_token("small");
     let setup = "mkdir small && mount -t tmpfs -o size=8k tmpfs small && cp keys small && cp keys before";
     let fill = "head -c 100000 /dev/zero >small/filler 2>/dev/null";
-    let line = "bhinorpa table --from small/keys --new a/b --out small/keys; echo $?; cmp small/keys before && ls -A small";
+    let line = "bhinorpa table --from small/keys --new a/b --out small/keys; echo $?; \
+                cmp small/keys before && ls -A small";
     let script = format!("{setup} || exit 77; {fill}; {line}");
     let runner = std::env::var("CARGO_TARGET_X86_64_UNKNOWN_LINUX_GNU_RUNNER").unwrap_or_default();
     let tool = env!("CARGO_BIN_EXE_bhinorpa");

@@ -81,6 +81,10 @@ const PARTS: &[Case] = &[
         &[],
     ),
     ("caveat --caveat 'a1\na1'", 2, "--caveat \"a1\\na1\": a line ends behind 2 hex digits, and one item in hex is one line", &[]),
+    ("caveat --caveat - <bad.hex", 1, "--caveat -: the caveat has an unknown key or kind (cav.unknown, 33)", &[]),
+    ("caveat --custom a/b=- <bad.hex", 1, "--custom a/b=-: a value is one integer, byte string, text, true, false or null, or arrays of these up to four deep, in deterministic CBOR (cav.cbor, 31)", &[]),
+    ("caveat --custom a/=a0", 1, "--custom a/=a0: a value is one integer, byte string, text, true, false or null, or arrays of these up to four deep, in deterministic CBOR (cav.cbor, 31)", &[]),
+    ("caveat --method a,A,A,A,A,A,A,A,A,A,A,A,A,A,A,A,A", 1, "--method a,A,A,A,A,A,A,A,A,A,A,A,A,A,A,A,A: a list has at most 16 methods (cav.bounds, 32)", &[]),
     ("caveat --caveat 'a2 61'", 2, "--caveat \"a2 61\": ' ' is no hex digit", &[]),
     ("caveat --caveat a26174636578716176", 1, "--caveat a26174636578716176: the caveat has an unknown key or kind (cav.unknown, 33)", &[]),
     ("request --path / --tenant t", 2, "--method is missing: a request has --method, --path and --tenant", &[]),
@@ -202,6 +206,7 @@ fn folder(test: &str) -> Folder {
         folder.write(name, format!("{text}{end}").as_bytes());
     }
     folder.write("empty", b"");
+    folder.write("bad.hex", b"a26174636578716176\n");
     folder.write("long", &[b'r'; 40_000]);
     folder
 }

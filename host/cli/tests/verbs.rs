@@ -209,7 +209,8 @@ fn sixty_four_caveats_and_not_one_more() {
         let (status, printed, said) = folder.call(words);
         assert_eq!((status, printed.as_str(), said.as_str()), (1, "", first), "{words}");
     };
-    refused("narrow --table keys --token token --exp 0", "bhinorpa: --exp 0: the token has 64 caveats already (cav.full, 34)\n");
+    let full = "bhinorpa: --exp 0: the token has 64 caveats already (cav.full, 34)\n";
+    refused("narrow --table keys --token token --exp 0", full);
     let long = "--path-prefix /".to_owned() + &"a".repeat(255);
     let wide = format!("issue --table keys --tid workshop --kid k2 --methods GET {}", format!("{long} ").repeat(16));
     let over = "with the caveat the token would have over 4,096 bytes (size.full, 35)";
@@ -273,7 +274,8 @@ fn a_token_is_shown_with_what_is_known_of_its_tag() {
     judged("keys", 0, "right by the key of keys");
     judged("other", 1, "mac.mismatch: not what the key of other gives");
     judged("without", 1, "kid.unknown: without has no such key");
-    for (table, status, is) in [("", 0, "not judged"), ("--table keys", 0, "right"), ("--table other", 1, "mac.mismatch")] {
+    let tables = [("", 0, "not judged"), ("--table keys", 0, "right"), ("--table other", 1, "mac.mismatch")];
+    for (table, status, is) in tables {
         let (code, json, _) = folder.call(&format!("show --json {table} --token-text $(cat token)"));
         let read: serde_json::Value = serde_json::from_str(&json).expect("JSON");
         assert_eq!((code, read["tag_is"].as_str()), (status, Some(is)));
@@ -316,7 +318,8 @@ fn a_bundle_is_what_the_second_program_would_judge() {
     folder.good("bundle --as-is --table bad --token bad --out odd");
     assert_eq!(folder.read("odd"), b"\x09\0\x10\0no token\n\x08\0\x30\0no token");
     let (status, shown, _) = folder.shell("head -c 20 odd >cut; bhinorpa show --bundle cut");
-    assert_eq!((status, shown.as_str()), (1, "record 1 at byte 0: table, table.bad\nbundle.bad: at byte 13 a record is cut\n"));
+    let cut = "record 1 at byte 0: table, table.bad\nbundle.bad: at byte 13 a record is cut\n";
+    assert_eq!((status, shown.as_str()), (1, cut));
 }
 
 #[test]
