@@ -44,7 +44,7 @@ pub fn man() -> Vec<u8> {
     page.control("nf", []);
     page.text(EXAMPLES.iter().map(|(_, line)| roman(format!("{line}\n"))).collect::<Vec<_>>());
     page.control("fi", []);
-    page.to_roff().into_bytes()
+    page.render().into_bytes()
 }
 
 fn about(command: &Command) -> String {
