@@ -10,7 +10,7 @@ use clap::Args;
 
 use crate::library;
 use crate::problem::{wrong, Done, Problem};
-use crate::standard;
+use crate::{standard, values};
 
 /// The most bytes that each may have.
 pub const TABLE: usize = 64 * (4 + 1 + 64 + 1 + 64 + 32);
@@ -21,7 +21,7 @@ pub const BUNDLE: usize = 65_536;
 
 /// How a file is called in messages; '-' stands for standard input.
 pub fn named(file: &Path) -> String {
-    if is_standard(file) { "standard input".to_owned() } else { file.display().to_string() }
+    if is_standard(file) { "standard input".to_owned() } else { values::said(&file.to_string_lossy()) }
 }
 
 fn is_standard(file: &Path) -> bool {
@@ -92,7 +92,7 @@ impl Out {
         let there = there(file)?;
         let regular = there.as_ref().map_or(true, Metadata::is_file);
         if there.is_some() && regular && !self.replace && kept(file)? {
-            return wrong(format!("{} is there and is kept; with --replace it is lost", file.display()));
+            return wrong(format!("{} is there and is kept; with --replace it is lost", named(file)));
         }
         let done = match there {
             // A device or a pipe has no place beside it to be renamed from.
@@ -103,20 +103,20 @@ impl Out {
             Some(_) => fs::canonicalize(file).and_then(|place| write_whole(&place, bytes)),
             None => write_whole(file, bytes),
         };
-        done.or_else(|error| wrong(format!("{} cannot be written, and nothing was changed: {}", file.display(), said(&error))))
+        done.or_else(|error| wrong(format!("{} cannot be written, and nothing was changed: {}", named(file), said(&error))))
     }
 }
 
 /// What stands at a place, if anything does.
 fn there(file: &Path) -> Done<Option<Metadata>> {
     match fs::metadata(file) {
-        Ok(found) if found.is_dir() => wrong(format!("{} cannot be written: it is a folder", file.display())),
+        Ok(found) if found.is_dir() => wrong(format!("{} cannot be written: it is a folder", named(file))),
         Ok(found) => Ok(Some(found)),
         Err(error) if error.kind() == ErrorKind::NotFound && fs::symlink_metadata(file).is_ok() => {
-            wrong(format!("{} cannot be written: it is a link to nothing", file.display()))
+            wrong(format!("{} cannot be written: it is a link to nothing", named(file)))
         }
         Err(error) if error.kind() == ErrorKind::NotFound => Ok(None),
-        Err(error) => wrong(format!("{} cannot be written: {}", file.display(), said(&error))),
+        Err(error) => wrong(format!("{} cannot be written: {}", named(file), said(&error))),
     }
 }
 
