@@ -5,7 +5,8 @@
  *   switch                            the relay has switched
  *   METHOD PATH TENANT BODY TOKEN     a service tool asks; BODY is the new count, or "-" for none
  *
- * Each service message is answered with one line: the count, or "refused: " and the reason's name.
+ * Each service message is answered with one line: the count; "refused: " and the reason's name; or what is
+ * wrong with the message. Before the clock is set none is served, since every expiry would still be to come.
  * `firmware < examples/firmware.in` prints examples/firmware.txt. The status is 0 at the end of the input, or
  * 2 where a line cannot be read or an answer cannot be written; the loop ends there. */
 #include <stdio.h>
@@ -34,7 +35,11 @@ static uint8_t request[BHINORPA_REQUEST_MAX];
 static char line[BHINORPA_TEXT_MAX + 2048];
 
 static uint64_t now;
-static uint64_t count;
+static int clock_is_set;
+static uint64_t switchings;
+
+/* How many words the longest message has. */
+#define MOST_WORDS 5
 
 struct message {
     const char *method;
@@ -98,7 +103,12 @@ static int read_number(const char *text, uint64_t *number)
 /* Does what was asked, once the token allows it; nothing before that. */
 static void serve(const struct message *message)
 {
-    uint32_t answer = judge(message);
+    uint32_t answer;
+    if (!clock_is_set) {
+        puts("refused: the clock is not set");
+        return;
+    }
+    answer = judge(message);
     if (answer != BHINORPA_ALLOW) {
         printf("refused: %s\n", bhinorpa_name(answer));
         return;
@@ -107,7 +117,7 @@ static void serve(const struct message *message)
         puts("there is nothing under this path");
         return;
     }
-    if (strcmp(message->method, "PUT") == 0 && !read_number(message->body, &count)) {
+    if (strcmp(message->method, "PUT") == 0 && !read_number(message->body, &switchings)) {
         puts("the new count is no number");
         return;
     }
@@ -115,34 +125,48 @@ static void serve(const struct message *message)
         puts("there is no such method");
         return;
     }
-    printf("count %llu\n", (unsigned long long)count);
+    printf("count %llu\n", (unsigned long long)switchings);
+}
+
+/* How many words a message has that begins with this one. */
+static size_t words_of(const char *first)
+{
+    return strcmp(first, "switch") == 0 ? 1 : strcmp(first, "clock") == 0 ? 2 : MOST_WORDS;
+}
+
+static void ask(const char *const *words)
+{
+    struct message message;
+    message.method = words[0];
+    message.path = words[1];
+    message.tenant = words[2];
+    message.body = words[3];
+    message.token = words[4];
+    serve(&message);
 }
 
 /* One message, its words parted by blanks. */
 static void handle(char *text)
 {
-    struct message message;
-    const char *word = strtok(text, " \r");
-    if (word == NULL)
+    const char *words[MOST_WORDS + 1];
+    size_t count = 0;
+    char *word;
+    for (word = strtok(text, " \r"); word != NULL && count <= MOST_WORDS; word = strtok(NULL, " \r"))
+        words[count++] = word;
+    if (count == 0)
         return;
-    if (strcmp(word, "switch") == 0) {
-        count++;
-        return;
-    }
-    message.method = word;
-    message.path = strtok(NULL, " \r");
-    if (strcmp(word, "clock") == 0) {
-        if (message.path == NULL || !read_number(message.path, &now))
-            puts("the time is no number");
-        return;
-    }
-    message.tenant = strtok(NULL, " \r");
-    message.body = strtok(NULL, " \r");
-    message.token = strtok(NULL, " \r");
-    if (message.path == NULL || message.tenant == NULL || message.body == NULL || message.token == NULL)
+    if (count < words_of(words[0]))
         puts("the message is not whole");
+    else if (count > words_of(words[0]))
+        puts("the message has too many words");
+    else if (count == 1)
+        switchings++;
+    else if (count == 2 && read_number(words[1], &now))
+        clock_is_set = 1;
+    else if (count == 2)
+        puts("the time is no number");
     else
-        serve(&message);
+        ask(words);
 }
 
 /* Reads a line, its end left out. A length that the room does not have means that the line's rest is dropped,

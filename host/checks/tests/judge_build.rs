@@ -115,7 +115,7 @@ fn without_the_kit_it_says_so() {
     let folder = repository("without");
     let said = "judge: the Rattle kit is needed to build this: rt is not on the path (README, 'The kit')\n";
     // A path of its own: wherever a machine has rt, it is not there.
-    let needed = "bash dirname basename awk find uname mktemp rm cat touch grep";
+    let needed = "bash dirname basename readlink awk find uname mktemp rm cat touch grep";
     let only = format!("rm bin/rt; for name in {needed}; do ln -s $(command -v $name) bin/; done");
     let shell = format!("{only}; PATH=$PWD/bin tools/judge bundle");
     assert_eq!(run(&shell, &folder), (String::new(), said.to_owned(), Some(2)));

@@ -124,6 +124,15 @@ fn failing() -> Vec<Case> {
         case("$J denied -n >/dev/full", 2, "", UNWRITTEN),
         case("$J allowed >&-", 2, "", UNWRITTEN),
         case("$J --help >/dev/full", 2, "", UNWRITTEN),
+        // Where nothing can be said either, the status says it.
+        case("$J missing 2>&-", 2, "", ""),
+        case("$J -x 2>/dev/full", 2, "", ""),
+        case("$J - <&- 2>/dev/full", 2, "bundle.bad\n", ""),
+        case("$J allowed >&- 2>&-", 2, "", ""),
+        case("TMPDIR=/missing $J allowed 2>/dev/null", 2, "", ""),
+        // A folder that the shell would look for is not taken for the repository's; a link is followed.
+        case("cd \"$(dirname \"$J\")/..\" && CDPATH=. tools/judge \"$OLDPWD/allowed\"", 0, "allow\nallow\n", ""),
+        case("ln -sf \"$J\" link && ./link allowed", 0, "allow\nallow\n", ""),
         case("mkfifo p1 && exec 4<>p1 3>p1 4<&- && $J denied >&3", 2, "", ""),
         case("mkfifo p2 && exec 4<>p2 3>p2 4<&- && trap '' PIPE && $J denied >&3", 2, "", ""),
     ]

@@ -1,6 +1,6 @@
 //! Bundles: tables, requests and tokens as records one behind the other.
 
-use std::path::PathBuf;
+use std::path::{Path, PathBuf};
 
 use clap::builder::{PathBufValueParser, TypedValueParser, ValueParser};
 use clap::{Arg, ArgAction, ArgMatches, Args, Command, FromArgMatches, Parser};
@@ -14,6 +14,9 @@ use crate::{explain, files, library, make};
 pub const TABLE: u16 = 16;
 pub const REQUEST: u16 = 32;
 pub const TOKEN: u16 = 48;
+
+/// The longest body that a record can have.
+const RECORD: usize = 65_535;
 
 /// What a record is made from.
 #[derive(Clone, Debug)]
@@ -44,6 +47,35 @@ impl FromArgMatches for Parts {
         *self = Parts::from_arg_matches(matches)?;
         Ok(())
     }
+}
+
+impl Parts {
+    /// What is wrong with these words, before anything is read.
+    pub fn judged(&self) -> Done<()> {
+        if self.0.is_empty() {
+            return wrong("there is nothing to lay into the bundle: --table, --request, --ask, --token or --token-text");
+        }
+        self.0.iter().try_for_each(|part| match &part.value {
+            Part::Asked(words) => make::request(words).map(drop).map_err(|problem| problem.of(&named(part))),
+            _ => Ok(()),
+        })
+    }
+
+    /// The files that they are in, and by which option.
+    pub fn files(&self) -> Vec<(&'static str, &Path)> {
+        let mut files = Vec::new();
+        for part in &self.0 {
+            if let Part::File(file) = &part.value {
+                files.push((part.option, file.as_path()));
+            }
+        }
+        files
+    }
+}
+
+/// A part as it stands on the command line.
+fn named(part: &Placed<Part>) -> String {
+    format!("--{} {}", part.option, said(&part.said))
 }
 
 impl Args for Parts {
@@ -82,13 +114,10 @@ fn asked(words: &str) -> Result<Part, String> {
 /// The bundle's bytes.
 pub fn made(words: &BundleWords) -> Done<Vec<u8>> {
     let mut bundle = Vec::new();
-    if words.parts.0.is_empty() {
-        return wrong("there is nothing to lay into the bundle: --table, --request, --ask, --token or --token-text");
-    }
     for part in &words.parts.0 {
         let (kind, body) = record(part, !words.as_is)?;
         let Ok(_) = u16::try_from(body.len()) else {
-            return wrong(format!("--{} {}: a record has at most 65,535 bytes", part.option, part.said));
+            return wrong(format!("{}: a record has at most 65,535 bytes", named(part)));
         };
         bundle.extend(make::record(kind, &body));
     }
@@ -99,27 +128,32 @@ pub fn made(words: &BundleWords) -> Done<Vec<u8>> {
 }
 
 fn record(part: &Placed<Part>, judged: bool) -> Done<(u16, Vec<u8>)> {
-    let what = format!("--{} {}", part.option, said(&part.said));
+    let what = named(part);
     let bad = |answer: u32| judged && answer != 0;
+    // What is laid as it is may be as long as a record.
+    let most = |most: usize| if judged { most } else { RECORD };
     match (part.option, &part.value) {
         ("table", Part::File(file)) => {
-            let table = files::read(file, files::BUNDLE)?;
+            let table = files::read(file, most(files::TABLE))?;
             let answer = library::table_answer(&table);
             if bad(answer) { refused(answer, what, None) } else { Ok((TABLE, table)) }
         }
         ("request", Part::File(file)) => {
-            let request = files::read(file, files::BUNDLE)?;
+            let request = files::read(file, most(files::REQUEST))?;
             let answer = library::request_answer(&request);
             if bad(answer) { refused(answer, what, None) } else { Ok((REQUEST, request)) }
         }
         (_, Part::Asked(words)) => {
             let request = make::request(words)?;
             let answer = library::request_answer(&request);
-            if bad(answer) { explain::request(words, answer) } else { Ok((REQUEST, request)) }
+            if bad(answer) {
+                return explain::request(words, answer).map_err(|problem| problem.of(&what));
+            }
+            Ok((REQUEST, request))
         }
         (_, value) => {
             let text = match value {
-                Part::File(file) => files::line(file, files::BUNDLE)?,
+                Part::File(file) => files::line(file, most(files::TEXT))?,
                 Part::Text(text) => text.clone().into_bytes(),
                 Part::Asked(_) => Vec::new(),
             };

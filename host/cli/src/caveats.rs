@@ -1,6 +1,8 @@
 //! The words of caveats. They may be mixed and repeated, and stand in the token in the order in which they stand
 //! on the command line.
 
+use std::path::Path;
+
 use clap::{Arg, ArgAction, ArgMatches, Args, Command, FromArgMatches};
 
 use crate::items;
@@ -34,9 +36,9 @@ const OPTIONS: [(&str, &str, &str, Read); 13] = [
     ("rate", "PER_S,BURST", "Holds where the host states a rate, and none above this", rate),
     ("tenant", "TID", "Holds for tokens of this tenant", text),
     ("amnesia", "true|false", "true: holds in amnesia mode; false always holds", truth),
-    ("gov-policy-digest", "HEX", "Holds under this policy digest", digest),
-    ("custom", "NS/NAME=CBOR", "A caveat of one's own, with its value's CBOR in hex; holds for nothing so far", custom),
-    ("caveat", "HEX", "A whole caveat's CBOR in hex, or in a file: @FILE or -", whole),
+    ("gov-policy-digest", "DIGEST", "Holds under this policy digest, 64 hex digits", digest),
+    ("custom", "NS/NAME=HEX", "A caveat of one's own, with its value's CBOR; holds for nothing so far", custom),
+    ("caveat", "HEX", "A whole caveat's CBOR", whole),
 ];
 
 fn seconds(value: &str) -> Result<Value, String> {
@@ -123,6 +125,17 @@ impl Caveats {
             Ok(Caveat { value, ..caveat.clone() })
         };
         self.0.iter().map(read).collect::<Done<_>>().map(Caveats)
+    }
+
+    /// The files that they are in, and by which option.
+    pub fn files(&self) -> Vec<(&'static str, &Path)> {
+        let mut files = Vec::new();
+        for caveat in &self.0 {
+            if let Value::Whole(hex) | Value::Custom(Custom { value: hex, .. }) = &caveat.value {
+                files.extend(hex.file().map(|file| (caveat.option, file)));
+            }
+        }
+        files
     }
 }
 

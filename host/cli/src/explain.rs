@@ -6,9 +6,9 @@ use crate::library::{
     caveat_answer, request_answer, scope_answer, table_is_good, KID_UNKNOWN, MAC_MISMATCH, PARSE_B64, PARSE_BOUNDS,
     TABLE_BAD, UNKNOWN_FIELD,
 };
-use crate::make::{request_of, row, scope_of};
+use crate::make::{request_of, row, scope_of, Laid};
 use crate::problem::{refused, Done};
-use crate::values::{said, Custom, Ids, Methods};
+use crate::values::{said, Custom, Hex, Ids, Methods};
 use crate::words::{RequestWords, ScopeWords};
 use crate::{files, items, show};
 
@@ -65,17 +65,17 @@ pub fn scope<T>(words: &ScopeWords, answer: u32) -> Done<T> {
 }
 
 /// Why a scope's bytes are refused that came in hex.
-pub fn scope_hex<T>(answer: u32) -> Done<T> {
+pub fn scope_hex<T>(hex: &Hex, answer: u32) -> Done<T> {
     let why = match answer {
         PARSE_BOUNDS => "something in it is too long, too short or too many",
         UNKNOWN_FIELD => "it has a key that no scope has",
         _ => "this is no scope in deterministic CBOR",
     };
-    refused(answer, "--scope", Some(why))
+    refused(answer, format!("--scope {}", hex.said()), Some(why))
 }
 
 pub fn request<T>(words: &RequestWords, answer: u32) -> Done<T> {
-    let taken = |words: RequestWords| request_of(&words, 0).is_some_and(|body| request_answer(&body) == 0);
+    let taken = |words: RequestWords| request_answer(&request_of(&words, 0)) == 0;
     let plain = || RequestWords::plain("t");
     let skew = words.skew.map(|skew| skew.to_string());
     let words_alone = [
@@ -95,37 +95,34 @@ pub fn request<T>(words: &RequestWords, answer: u32) -> Done<T> {
 }
 
 /// Why rows make no table.
-pub fn table<T>(rows: &[(Ids, Vec<u8>)], answer: u32) -> Done<T> {
-    let faults = rows.iter().filter_map(|(ids, key)| row_fault(ids, key));
-    let twice = rows.windows(2).find(|two| two[0].0 == two[1].0).map(|two| (ids_said(&two[0].0), TWICE));
+pub fn table<T>(rows: &[Laid], answer: u32) -> Done<T> {
+    let mut faults = rows.iter().filter_map(|row| {
+        let (part, rule) = row_fault(&row.ids, &row.key)?;
+        Some((format!("{} {}, {part}", row.word, row.ids), rule))
+    });
+    let twice = rows.windows(2).find(|two| two[0].ids == two[1].ids);
+    let twice = twice.map(|two| (format!("{} {}", two[1].word, two[1].ids), TWICE));
     let many = (rows.len() > 64).then(|| (format!("{} rows", rows.len()), ROWS));
-    let fault = faults.into_iter().next().or(twice).or(many);
-    told(answer, fault, "the table")
+    told(answer, faults.next().or(twice).or(many), "the table")
 }
 
-fn ids_said(ids: &Ids) -> String {
-    said(&format!("{}/{}", ids.tid, ids.kid))
-}
-
-/// The part of a row that the library refuses beside others that it takes.
-fn row_fault(ids: &Ids, key: &[u8]) -> Fault {
-    let Ids { tid, kid } = ids;
+/// The part of a row that the library refuses beside others that it takes, and its rule.
+fn row_fault(Ids { tid, kid }: &Ids, key: &[u8]) -> Option<(&'static str, &'static str)> {
     let bad = |tid: &str, kid: &str, key: &[u8]| !row(tid, kid, key).is_some_and(|row| table_is_good(&row));
-    let ids = ids_said(ids);
-    if bad(tid, "k", &[0; 32]) {
-        return Some((format!("the tid of {ids}"), NAME));
-    }
-    if bad("t", kid, &[0; 32]) {
-        return Some((format!("the kid of {ids}"), NAME));
-    }
-    bad("t", "k", key).then(|| (format!("the key of {ids}"), KEY))
+    let parts = [
+        (bad(tid, "k", &[0; 32]), "tid", NAME),
+        (bad("t", kid, &[0; 32]), "kid", NAME),
+        (bad("t", "k", key), "key", KEY),
+    ];
+    parts.into_iter().find(|(bad, ..)| *bad).map(|(_, part, rule)| (part, rule))
 }
 
 /// Why there is no key under these ids.
-pub fn ids<T>(tid: &str, kid: &str, table: &str, answer: u32) -> Done<T> {
-    let ids = Ids { tid: tid.to_owned(), kid: kid.to_owned() };
-    match row_fault(&ids, &[0; 32]) {
-        Some((word, rule)) => refused(answer, word, Some(rule)),
+pub fn ids<T>(ids: &Ids, table: &str, answer: u32) -> Done<T> {
+    let [tid, kid] = [&ids.tid, &ids.kid].map(|id| said(id));
+    match row_fault(ids, &[0; 32]) {
+        Some(("tid", rule)) => refused(answer, format!("--tid {tid}"), Some(rule)),
+        Some((_, rule)) => refused(answer, format!("--kid {kid}"), Some(rule)),
         None => refused(answer, format!("--tid {tid} --kid {kid}"), Some(&format!("{table} has no key under these"))),
     }
 }
@@ -134,7 +131,10 @@ pub fn ids<T>(tid: &str, kid: &str, table: &str, answer: u32) -> Done<T> {
 pub fn caveat<T>(caveat: &Caveat, what: &str, answer: u32) -> Done<T> {
     let rule = match &caveat.value {
         Value::Methods(list) => methods_fault(caveat.option, &list.0).map(|(_, rule)| rule),
-        Value::Custom(custom) => custom_rule(custom),
+        Value::Custom(custom) => {
+            let fault = custom_fault(custom);
+            return refused(answer, fault.map_or(what.to_owned(), |(part, _)| format!("{what}, {part}")), fault.map(|f| f.1));
+        }
         Value::Text(_) => match caveat.option {
             "aud" => Some(AUDIENCE),
             "path-prefix" => Some(PREFIX),
@@ -150,20 +150,20 @@ pub fn caveat<T>(caveat: &Caveat, what: &str, answer: u32) -> Done<T> {
     refused(answer, what, rule.filter(|_| own))
 }
 
-/// In the order of the value's bytes: ns, cbor, name.
-fn custom_rule(Custom { ns, name, value }: &Custom) -> Option<&'static str> {
+/// The part that is refused and its rule, in the order of the value's bytes: ns, cbor, name.
+fn custom_fault(Custom { ns, name, value }: &Custom) -> Option<(&'static str, &'static str)> {
     let refused = |ns: &str, value: Vec<u8>, name: &str| {
         let v = items::map(&[("ns", items::text(ns)), ("cbor", value), ("name", items::text(name))]);
         caveat_answer(&items::map(&[("t", items::text("custom")), ("v", v)])) != 0
     };
     let value = value.bytes("custom").unwrap_or_default();
     if refused(ns, items::truth(true), "n") {
-        return Some(NAME);
+        return Some(("ns", NAME));
     }
     if refused("n", value, "n") {
-        return Some(CUSTOM);
+        return Some(("value", CUSTOM));
     }
-    refused("n", items::truth(true), name).then_some(NAME)
+    refused("n", items::truth(true), name).then_some(("name", NAME))
 }
 
 /// Why a token's text is refused, or its key or tag by a table; `what` says which token it is.
@@ -196,7 +196,7 @@ fn text_fault(text: &[u8]) -> String {
     };
     let met = match text[at] {
         b'\r' => "a carriage return",
-        b'\n' if at + 1 == text.len() => "a second newline",
+        b'\n' if at + 1 == text.len() => "a newline too many",
         b'\n' => "a second line",
         b' ' => "a space",
         b'\t' => "a tab",

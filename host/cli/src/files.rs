@@ -21,11 +21,21 @@ pub const BUNDLE: usize = 65_536;
 
 /// How a file is called in messages; '-' stands for standard input.
 pub fn named(file: &Path) -> String {
-    if is_standard(file) { "standard input".to_owned() } else { values::said(&file.to_string_lossy()) }
+    if is_input(file) { "standard input".to_owned() } else { values::said(&file.to_string_lossy()) }
 }
 
-fn is_standard(file: &Path) -> bool {
-    file == Path::new("-")
+/// Whether a name stands for standard input; there are some for the same descriptor.
+pub fn is_input(file: &Path) -> bool {
+    ["-", "/dev/stdin", "/dev/fd/0", "/proc/self/fd/0"].iter().any(|name| file == Path::new(name))
+}
+
+fn is_output(file: &Path) -> bool {
+    ["-", "/dev/stdout", "/dev/fd/1", "/proc/self/fd/1"].iter().any(|name| file == Path::new(name))
+}
+
+/// Whether a name stands for a descriptor: what it leads to is open, and others write there too.
+fn is_descriptor(file: &Path) -> bool {
+    ["/dev/stderr", "/dev/fd", "/proc/self/fd"].iter().any(|front| file.starts_with(front))
 }
 
 /// Why a call failed, without its number.
@@ -37,12 +47,8 @@ fn said(error: &io::Error) -> String {
 /// The bytes of a file, and one more at most than it may have: that is enough for the library to refuse it.
 pub fn read(file: &Path, most: usize) -> Done<Vec<u8>> {
     let mut bytes = Vec::new();
-    let limit = most as u64 + 1;
-    let done = if is_standard(file) {
-        standard::input().and_then(|input| input.take(limit).read_to_end(&mut bytes))
-    } else {
-        File::open(file).and_then(|opened| opened.take(limit).read_to_end(&mut bytes))
-    };
+    let opened = if is_input(file) { standard::input() } else { File::open(file) };
+    let done = opened.and_then(|opened| opened.take(most as u64 + 1).read_to_end(&mut bytes));
     done.or_else(|error| wrong(format!("{} cannot be read: {}", named(file), said(&error))))?;
     Ok(bytes)
 }
@@ -72,7 +78,15 @@ pub struct Out {
 impl Out {
     /// The file, where it is none of those that stand for standard output.
     fn file(&self) -> Option<&Path> {
-        self.out.as_deref().filter(|file| !is_standard(file))
+        self.out.as_deref().filter(|file| !is_output(file))
+    }
+
+    /// What is wrong with these words, before anything is read.
+    pub fn judged(&self) -> Done<()> {
+        if self.replace && self.file().is_none() {
+            return wrong("--replace: standard output has nothing to replace");
+        }
+        Ok(())
     }
 
     /// Writes what was made.
@@ -86,24 +100,33 @@ impl Out {
     }
 
     fn put_unless(&self, bytes: &[u8], kept: impl Fn(&Path) -> Done<bool>) -> Done<()> {
-        let Some(file) = self.file() else {
-            return if self.replace { wrong("--replace: standard output has nothing to replace") } else { print(bytes) };
-        };
+        let Some(file) = self.file() else { return print(bytes) };
         let there = there(file)?;
-        let regular = there.as_ref().map_or(true, Metadata::is_file);
-        if there.is_some() && regular && !self.replace && kept(file)? {
+        if there.as_ref().is_some_and(|found| !found.is_file()) {
+            return write_through(file, bytes);
+        }
+        if is_descriptor(file) {
+            return wrong(format!("{} cannot be written: it leads to an open file", named(file)));
+        }
+        if there.is_some() && !self.replace && kept(file)? {
             return wrong(format!("{} is there and is kept; with --replace it is lost", named(file)));
         }
         let done = match there {
-            // A device or a pipe has no place beside it to be renamed from.
-            Some(_) if !regular => {
-                OpenOptions::new().write(true).open(file).and_then(|mut open| open.write_all(bytes))
-            }
             // What a link leads to is replaced, and not the link.
             Some(_) => fs::canonicalize(file).and_then(|place| write_whole(&place, bytes)),
             None => write_whole(file, bytes),
         };
         done.or_else(|error| wrong(format!("{} cannot be written, and nothing was changed: {}", named(file), said(&error))))
+    }
+}
+
+/// A device or a pipe has no place beside it that could be renamed, and may have taken a part.
+fn write_through(file: &Path, bytes: &[u8]) -> Done<()> {
+    let done = OpenOptions::new().write(true).open(file).and_then(|mut open| open.write_all(bytes));
+    match done {
+        Err(error) if error.kind() == ErrorKind::BrokenPipe => Err(Problem::Unread),
+        Err(error) => wrong(format!("{} cannot be written: {}", named(file), said(&error))),
+        Ok(()) => Ok(()),
     }
 }
 
@@ -122,7 +145,7 @@ fn there(file: &Path) -> Done<Option<Metadata>> {
 
 fn is_same(read: &Path, file: &Path) -> bool {
     let place = |file: &Path| fs::metadata(file).map(|found| (found.dev(), found.ino())).ok();
-    !is_standard(read) && place(read).is_some() && place(read) == place(file)
+    !is_input(read) && place(read).is_some() && place(read) == place(file)
 }
 
 /// Whether a file is a table that has a row: whoever wrote a token over it would have lost the keys.

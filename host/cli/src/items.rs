@@ -151,8 +151,7 @@ impl fmt::Display for Item {
             Tree::Unsigned(number) => write!(f, "{number}"),
             Tree::Negative(number) => write!(f, "{}", -1 - i128::from(*number)),
             Tree::Bytes(bytes) => write!(f, "h'{}'", as_hex(bytes)),
-            // In quotes, with nothing that a terminal would act upon.
-            Tree::Text(text) => write!(f, "{text:?}"),
+            Tree::Text(text) => f.write_str(&quoted(text)),
             Tree::List(items) => write!(f, "[{}]", joined(items.iter().map(Item::to_string).collect())),
             Tree::Map(entries) => {
                 write!(f, "{{{}}}", joined(entries.iter().map(|(key, value)| format!("{key}: {value}")).collect()))
@@ -162,6 +161,17 @@ impl fmt::Display for Item {
             Tree::Null => f.write_str("null"),
         }
     }
+}
+
+/// In quotes and escaped as in JSON, with nothing left that a terminal would act upon.
+fn quoted(text: &str) -> String {
+    let escaped = |letter: char| match letter {
+        '"' | '\\' => format!("\\{letter}"),
+        '\'' => letter.to_string(),
+        _ if letter.escape_debug().len() == 1 => letter.to_string(),
+        _ => letter.encode_utf16(&mut [0; 2]).iter().map(|half| format!("\\u{half:04x}")).collect(),
+    };
+    format!("\"{}\"", text.chars().map(escaped).collect::<String>())
 }
 
 #[cfg(test)]
@@ -194,7 +204,8 @@ mod tests {
     #[test]
     fn items_in_words() {
         assert_eq!(said(b"\x85\x20\x41\xff\xf4\xf6\x80").as_deref(), Some("[-1, h'ff', false, null, []]"));
-        assert_eq!(said(b"\x63a\x1bb").as_deref(), Some("\"a\\u{1b}b\""));
+        assert_eq!(said(b"\x63a\x1bb").as_deref(), Some("\"a\\u001bb\""));
+        assert_eq!(said(b"\x64'\"\\\0").as_deref(), Some("\"'\\\"\\\\\\u0000\""));
         assert_eq!(said(b"\x3b\xff\xff\xff\xff\xff\xff\xff\xff").as_deref(), Some("-18446744073709551616"));
         assert_eq!(texts(&[]), [0x80]);
         for bad in [&b""[..], b"\x61", b"\x00\x00", b"\x9b\xff\xff\xff\xff\xff\xff\xff\xff", b"\xf7", b"\x1f"] {

@@ -26,25 +26,33 @@ pub fn record(kind: u16, body: &[u8]) -> Vec<u8> {
     [&(body.len() as u16).to_le_bytes(), &kind.to_le_bytes(), body].concat()
 }
 
+/// A row to be laid, and the word that it is from.
+#[derive(PartialEq, Eq, PartialOrd, Ord)]
+pub struct Laid {
+    pub ids: Ids,
+    pub key: Vec<u8>,
+    pub word: &'static str,
+}
+
 /// A table's rows: those of other tables, those with a key, and those to which a fresh key is given, all in the
 /// order that a table must have.
-pub fn rows(words: &TableWords) -> Done<Vec<(Ids, Vec<u8>)>> {
+pub fn rows(words: &TableWords) -> Done<Vec<Laid>> {
     let mut rows = Vec::new();
     for file in &words.from {
-        rows.extend(show::rows(&table(file)?));
+        rows.extend(show::rows(&table(file)?).into_iter().map(|(ids, key)| Laid { ids, key, word: "--from" }));
     }
     for ids in &words.drop {
         let before = rows.len();
-        rows.retain(|(known, _)| known != ids);
+        rows.retain(|row| row.ids != *ids);
         if rows.len() == before {
-            return wrong(format!("--drop {}/{}: --from has no such row", ids.tid, ids.kid));
+            return wrong(format!("--drop {ids}: --from has no such row"));
         }
     }
     for row in &words.row {
-        rows.push((row.ids.clone(), row.key.bytes("row")?));
+        rows.push(Laid { ids: row.ids.clone(), key: row.key.bytes("row")?, word: "--row" });
     }
     for ids in &words.new {
-        rows.push((ids.clone(), fresh_key()?));
+        rows.push(Laid { ids: ids.clone(), key: fresh_key()?, word: "--new" });
     }
     rows.sort();
     Ok(rows)
@@ -68,7 +76,7 @@ fn fresh_key() -> Done<Vec<u8>> {
 
 /// The least request of a tenant, to ask the library about tokens with.
 pub fn plain_request(tenant: &str) -> Vec<u8> {
-    request_of(&RequestWords::plain(tenant), 0).unwrap_or_default()
+    request_of(&RequestWords::plain(tenant), 0)
 }
 
 impl RequestWords {
@@ -86,13 +94,18 @@ pub fn request(words: &RequestWords) -> Done<Vec<u8>> {
             return wrong(format!("--{option} is missing: a request has --method, --path and --tenant"));
         }
     }
+    for (option, value) in needed.into_iter().chain([("aud", &words.aud)]) {
+        let length = value.as_ref().map_or(0, String::len);
+        if length > usize::from(u16::MAX) {
+            return wrong(format!("--{option}: a request has two bytes for its length, and it has {length}"));
+        }
+    }
     let now = words.now.map_or_else(|| times::this_moment().or_else(wrong), Ok)?;
-    let body = request_of(words, now);
-    body.map_or_else(|| wrong("a request has two bytes for the length of a text, and one here is longer"), Ok)
+    Ok(request_of(words, now))
 }
 
-/// Nothing where a text is longer than its length can be said.
-pub fn request_of(words: &RequestWords, now: u64) -> Option<Vec<u8>> {
+/// Of words that are there, and whose lengths can be said.
+pub fn request_of(words: &RequestWords, now: u64) -> Vec<u8> {
     let RequestWords { peer, digest, rate, aud, .. } = words;
     let amnesia = words.amnesia.unwrap_or(false);
     let stated = [amnesia, peer.is_some(), aud.is_some(), digest.is_some(), rate.is_some()];
@@ -104,10 +117,10 @@ pub fn request_of(words: &RequestWords, now: u64) -> Option<Vec<u8>> {
     body.extend(digest.iter().flat_map(|digest| digest.bytes()));
     body.extend(rate.iter().flat_map(|rate| [rate.per_s.to_le_bytes(), rate.burst.to_le_bytes()].concat()));
     for text in [&words.method, &words.path, &words.tenant, aud].into_iter().flatten() {
-        body.extend(u16::try_from(text.len()).ok()?.to_le_bytes());
+        body.extend((text.len() as u16).to_le_bytes());
         body.extend(text.bytes());
     }
-    Some(body)
+    body
 }
 
 /// A scope's bytes, made from its words.
@@ -126,12 +139,15 @@ pub fn scope_of(words: &ScopeWords) -> Vec<u8> {
 }
 
 impl TokenWords {
+    pub fn there(&self) -> bool {
+        self.token.is_some() || self.token_text.is_some()
+    }
+
     /// The token's text, and how the token is called in messages.
     pub fn text(&self) -> Done<(Vec<u8>, String)> {
         match (&self.token, &self.token_text) {
             (Some(file), _) => Ok((files::line(file, files::TEXT)?, format!("the token in {}", files::named(file)))),
-            (_, Some(text)) => Ok((text.clone().into_bytes(), "the token of --token-text".to_owned())),
-            _ => wrong("--token FILE or --token-text TEXT is missing"),
+            (None, text) => Ok((text.clone().unwrap_or_default().into_bytes(), "the token of --token-text".to_owned())),
         }
     }
 }

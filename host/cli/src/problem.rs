@@ -28,6 +28,15 @@ pub fn refused<T>(answer: u32, what: impl fmt::Display, why: Option<&str>) -> Do
 }
 
 impl Problem {
+    /// The same of a thing that this stands in front of.
+    pub fn of(self, what: &str) -> Problem {
+        match self {
+            Problem::Words(said) => Problem::Words(format!("{what}: {said}")),
+            Problem::Refused(answer, said) => Problem::Refused(answer, format!("{what}: {said}")),
+            Problem::Unread => Problem::Unread,
+        }
+    }
+
     pub fn status(&self) -> u8 {
         match self {
             Problem::Refused(..) => 1,

@@ -19,7 +19,10 @@ pub fn said(error: &Error) -> String {
             }
             format!("{arg} and {prior} cannot stand together")
         }
-        ErrorKind::MissingRequiredArgument => format!("{arg} is missing"),
+        ErrorKind::MissingRequiredArgument => {
+            let are = if texts(error, ContextKind::InvalidArg).len() > 1 { "are" } else { "is" };
+            format!("{arg} {are} missing")
+        }
         ErrorKind::ValueValidation => {
             let why = error.source().map(ToString::to_string).unwrap_or_default();
             format!("{arg} {value}: {why}")
@@ -33,7 +36,9 @@ pub fn said(error: &Error) -> String {
         ErrorKind::UnknownArgument => {
             let near = texts(error, ContextKind::SuggestedArg).join(" ");
             let near = if near.is_empty() { near } else { format!("; there is {near}") };
-            format!("{arg} is no word of this verb{near}")
+            let short = arg.starts_with('-') && !arg.starts_with("--");
+            let dash = if short { "; a value that begins with - is written --option=VALUE" } else { "" };
+            format!("{arg} is no word of this verb{near}{dash}")
         }
         ErrorKind::InvalidSubcommand => {
             format!("there is no verb {}", texts(error, ContextKind::InvalidSubcommand).join(" "))

@@ -1,7 +1,9 @@
 //! Standard input and output as the process was given them. Rust opens /dev/null in the place of a closed one
 //! before `main`, so that what is written there would be lost without a word; hence the look before that.
 
+use std::fs::File;
 use std::io;
+use std::os::fd::AsFd;
 use std::sync::atomic::{AtomicBool, Ordering};
 
 static INPUT_CLOSED: AtomicBool = AtomicBool::new(false);
@@ -20,8 +22,10 @@ extern "C" fn look() {
     }
 }
 
-pub fn input() -> io::Result<io::Stdin> {
-    open(&INPUT_CLOSED).map(|()| io::stdin())
+/// Without a buffer, which would take more than is asked for.
+pub fn input() -> io::Result<File> {
+    open(&INPUT_CLOSED)?;
+    Ok(File::from(io::stdin().as_fd().try_clone_to_owned()?))
 }
 
 pub fn output() -> io::Result<io::Stdout> {

@@ -18,7 +18,10 @@ pub fn read(value: &str) -> Result<u64, String> {
     }
     let time = OffsetDateTime::parse(value, &Rfc3339).map_err(|error| unread(&error))?;
     if time.nanosecond() != 0 {
-        return Err("times are whole seconds".to_owned());
+        // A second 60 is read as the last part of second 59.
+        let leap = !value.contains('.');
+        let why = if leap { "there is no such time: second must be in the range 0 to 59" } else { "times are whole seconds" };
+        return Err(why.to_owned());
     }
     u64::try_from(time.unix_timestamp()).map_err(|_| "times begin with 1970".to_owned())
 }
@@ -123,6 +126,7 @@ mod tests {
             ("2026-01-01T24:00:00Z", "there is no such time: hour"),
             ("2026-01-01T00:60:00Z", "there is no such time: minute"),
             ("2026-01-01T00:00:60Z", "there is no such time: second"),
+            ("2016-12-31T23:59:60Z", "there is no such time: second"),
             ("2026-01-01T00:00:00.5Z", "times are whole seconds"),
             ("1969-12-31T23:59:59Z", "times begin with 1970"),
             ("18446744073709551616", "seconds since 1970 are at most"),

@@ -1,8 +1,9 @@
 //! What one word may be. Words are read before anything else is done, so that one that means nothing is refused
 //! with nothing read or written.
 
+use std::fmt;
 use std::net::Ipv4Addr;
-use std::path::PathBuf;
+use std::path::{Path, PathBuf};
 use std::str::FromStr;
 
 use crate::files;
@@ -26,13 +27,26 @@ impl FromStr for Hex {
         match value.strip_prefix('@') {
             Some("") => Err("a file's name is missing behind the @".to_owned()),
             Some(name) => Ok(Hex::In(name.into())),
-            None if value == "-" => Ok(Hex::In(value.into())),
+            None if value == "-" => Ok(Hex::In("-".into())),
             None => digits(value).map(Hex::Digits),
         }
     }
 }
 
 impl Hex {
+    /// The file that it is in, if it is not on the command line.
+    pub fn file(&self) -> Option<&Path> {
+        if let Hex::In(file) = self { Some(file) } else { None }
+    }
+
+    /// As it stands in messages.
+    pub fn said(&self) -> String {
+        match self {
+            Hex::Digits(bytes) => said(&as_hex(bytes)),
+            Hex::In(file) => format!("in {}", files::named(file)),
+        }
+    }
+
     /// With the bytes of its file in the place of the file, which may be readable once only.
     pub fn read(&self, option: &str) -> Done<Hex> {
         self.bytes(option).map(Hex::Digits)
@@ -88,6 +102,12 @@ pub struct Ids {
     pub kid: String,
 }
 
+impl fmt::Display for Ids {
+    fn fmt(&self, f: &mut fmt::Formatter) -> fmt::Result {
+        f.write_str(&said(&format!("{}/{}", self.tid, self.kid)))
+    }
+}
+
 impl FromStr for Ids {
     type Err = String;
 
@@ -124,7 +144,7 @@ impl FromStr for Rate {
     type Err = String;
 
     fn from_str(value: &str) -> Result<Rate, String> {
-        let parts = value.split_once(',').ok_or("PER_SECOND,BURST is needed, as 5,10")?;
+        let parts = value.split_once(',').ok_or("PER_S,BURST is needed, as 5,10")?;
         Ok(Rate { per_s: below(parts.0)?, burst: below(parts.1)? })
     }
 }

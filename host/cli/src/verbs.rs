@@ -1,11 +1,13 @@
 //! What each verb does: bytes from words, the library's answer, and where the result goes.
 
+use std::path::Path;
+
 use serde_json::json;
 
 use crate::caveats::{Caveat, Caveats};
 use crate::library::{CAV_CBOR, CTX_BAD, KID_UNKNOWN, MAC_MISMATCH, TABLE_BAD};
 use crate::problem::{refused, wrong, Done, Problem};
-use crate::values::as_hex;
+use crate::values::{as_hex, Ids};
 use crate::words::{
     CaveatVerb, HashWords, IssueWords, NarrowWords, RequestVerb, ScopeVerb, ShowWords, TableWords, Verb, VerifyWords,
 };
@@ -32,7 +34,7 @@ pub fn done(verb: Verb) -> Done<u8> {
 
 fn table(words: &TableWords) -> Done<()> {
     let rows = make::rows(words)?;
-    let records: Option<Vec<Vec<u8>>> = rows.iter().map(|(ids, key)| make::row(&ids.tid, &ids.kid, key)).collect();
+    let records: Option<Vec<Vec<u8>>> = rows.iter().map(|row| make::row(&row.ids.tid, &row.ids.kid, &row.key)).collect();
     match records.map(|records| records.concat()) {
         Some(table) if library::table_is_good(&table) => words.out.put_table(&table, &words.from),
         _ => explain::table(&rows, TABLE_BAD),
@@ -57,7 +59,7 @@ fn scope(words: &ScopeVerb) -> Done<()> {
 
 fn caveat(words: &CaveatVerb) -> Done<()> {
     let mut lines = String::new();
-    for (place, caveat) in numbered(&words.caveats.read()?)? {
+    for (place, caveat) in numbered(&words.caveats.read()?) {
         let bytes = caveat.bytes()?;
         let answer = library::caveat_answer(&bytes);
         if answer != 0 {
@@ -69,16 +71,13 @@ fn caveat(words: &CaveatVerb) -> Done<()> {
 }
 
 /// Caveats, and how each is called: by its place too where there are several.
-fn numbered(caveats: &Caveats) -> Done<Vec<(String, &Caveat)>> {
+fn numbered(caveats: &Caveats) -> Vec<(String, &Caveat)> {
     let count = caveats.0.len();
     let called = |(place, caveat): (usize, &Caveat)| match count {
         1 => caveat.words(),
         _ => format!("caveat {place} of {count}, {}", caveat.words()),
     };
-    if count == 0 {
-        return wrong("there is no caveat: --exp, --method or another is needed");
-    }
-    Ok((1..).zip(&caveats.0).map(|(place, caveat)| (called((place, caveat)), caveat)).collect())
+    (1..).zip(&caveats.0).map(|(place, caveat)| (called((place, caveat)), caveat)).collect()
 }
 
 fn issue(words: &IssueWords) -> Done<()> {
@@ -91,18 +90,18 @@ fn issue(words: &IssueWords) -> Done<()> {
     let token = match library::issue(&table, &words.tid, &words.kid, &scope) {
         Ok(token) => token,
         Err(answer @ TABLE_BAD) => return refused(answer, named, None),
-        Err(answer @ KID_UNKNOWN) => return explain::ids(&words.tid, &words.kid, &named, answer),
-        Err(answer) if words.scope_hex.is_some() => return explain::scope_hex(answer),
-        Err(answer) => return explain::scope(&words.scope, answer),
+        Err(answer @ KID_UNKNOWN) => {
+            return explain::ids(&Ids { tid: words.tid.clone(), kid: words.kid.clone() }, &named, answer);
+        }
+        Err(answer) => {
+            let hex = words.scope_hex.as_ref();
+            return hex.map_or_else(|| explain::scope(&words.scope, answer), |hex| explain::scope_hex(hex, answer));
+        }
     };
-    if words.caveats.0.is_empty() {
-        return put_text(token, &words.out);
-    }
     hand_out(&table, token, ("the fresh token", &named), &words.caveats, &words.out)
 }
 
 fn narrow(words: &NarrowWords) -> Done<()> {
-    numbered(&words.caveats)?;
     let (token, what) = words.token.text()?;
     let table = files::read(&words.table, files::TABLE)?;
     let named = format!("the table in {}", files::named(&words.table));
@@ -111,7 +110,7 @@ fn narrow(words: &NarrowWords) -> Done<()> {
 
 /// Narrows a token by caveats, one after the other, and writes its text. `names` are the token's and the table's.
 fn hand_out(table: &[u8], mut token: Vec<u8>, names: (&str, &str), caveats: &Caveats, out: &files::Out) -> Done<()> {
-    for (place, caveat) in numbered(&caveats.read()?)? {
+    for (place, caveat) in numbered(&caveats.read()?) {
         token = match library::narrow(table, &token, &caveat.bytes()?) {
             Ok(child) => child,
             // Up to the tag the answer is about the token or the table, and behind it about the caveat.
@@ -146,7 +145,7 @@ fn verify(words: &VerifyWords) -> Done<u8> {
     let why: Done<u8> = match answer {
         0 => return Ok(0),
         CTX_BAD if words.file.is_none() => explain::request(&words.request, answer),
-        CTX_BAD => refused(answer, "the request of --request", None),
+        CTX_BAD => refused(answer, words.file.iter().map(|file| request_named(file)).collect::<String>(), None),
         ..=MAC_MISMATCH => {
             explain::token(&token, &what, &format!("the table in {}", files::named(&words.table)), answer)
         }
@@ -159,17 +158,17 @@ fn verify(words: &VerifyWords) -> Done<u8> {
     Ok(1)
 }
 
+fn request_named(file: &Path) -> String {
+    format!("the request in {}", files::named(file))
+}
+
 fn show(words: &ShowWords) -> Done<u8> {
     if let Some(file) = &words.bundle {
         let (shown, whole) = racks::shown(&files::read(file, files::BUNDLE)?);
         words.out.put(shown.text(words.json).as_bytes())?;
         return Ok(u8::from(!whole));
     }
-    let (shown, status) = if words.token.token.is_some() || words.token.token_text.is_some() {
-        show_token(words)?
-    } else {
-        (show_part(words)?, 0)
-    };
+    let (shown, status) = if words.token.there() { show_token(words)? } else { (show_part(words)?, 0) };
     match shown {
         Some(shown) => words.out.put(shown.text(words.json).as_bytes()).map(|()| status),
         None => wrong("this cannot be shown"),
@@ -183,22 +182,22 @@ fn show_part(words: &ShowWords) -> Done<Option<show::Shown>> {
     }
     if let Some(file) = &words.request {
         let body = files::read(file, files::REQUEST)?;
-        good(library::request_answer(&body), format!("the request in {}", files::named(file)))?;
+        good(library::request_answer(&body), request_named(file))?;
         return Ok(show::request(&body));
     }
     if let Some(hex) = &words.scope {
         let scope = hex.bytes("scope")?;
         return match library::scope_answer(&scope) {
             0 => Ok(show::scope(&scope)),
-            answer => explain::scope_hex(answer),
+            answer => explain::scope_hex(hex, answer),
         };
     }
     if let Some(hex) = &words.caveat {
         let caveat = hex.bytes("caveat")?;
-        good(library::caveat_answer(&caveat), "--caveat".to_owned())?;
+        good(library::caveat_answer(&caveat), format!("--caveat {}", hex.said()))?;
         return Ok(show::caveat(&caveat));
     }
-    wrong("show needs --table, --request, --token, --token-text, --scope, --caveat or --bundle")
+    Ok(None)
 }
 
 /// The token, and the status: 1 where its key is unknown or its tag is wrong.
@@ -227,7 +226,7 @@ fn hash(words: &HashWords) -> Done<()> {
     let hashed = archive::keyed_hash(&key, &message);
     if hashed.answer != 0 {
         let long = message.len() > files::MESSAGE;
-        let what = if long { files::named(&words.file) } else { "--key".to_owned() };
+        let what = if long { files::named(&words.file) } else { format!("--key {}", words.key.said()) };
         let why = if long { "at most 8,192 bytes are hashed" } else { explain::KEY };
         return Err(Problem::Refused(hashed.answer, format!("{what}: {why}")));
     }

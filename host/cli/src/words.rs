@@ -18,14 +18,15 @@ const LONG: &str = "\
 Makes, narrows and judges capability tokens for relay modules. Every judgement is the library's:
 this tool lays bytes from words, calls the library and says its answer.
 
-FILE may be - for standard input. HEX takes digits of either case, @FILE or -; a digest is
-written in lower case. Times are written 2026-01-01T00:00:00Z, in seconds since 1970, or +30d
-from now (s, m, h, d, w). A value that begins with - is written --option=VALUE. One newline at
-the end of a token's or a hex file is not part of it.
+FILE may be - for standard input, once in a command. HEX is digits of either case, @FILE or -.
+Times are written 2026-01-01T00:00:00Z, in seconds since 1970, or +30d from now (s, m, h, d, w).
+A value that begins with - is written --option=VALUE. One newline at the end of a token's or a
+hex file is not part of it.
 
-Every word is used, or the command is refused with nothing read or written. The status is 0; 1
-where the library refuses or denies; 2 where the words are wrong or a file cannot be read or
-written. A file is written whole or not at all.";
+Every word is used, or the command is refused with nothing read or written; only --help and
+--version leave other words alone. The status is 0; 1 where the library refuses or denies; 2
+where the words are wrong or a file cannot be read or written. A file is written whole or not
+at all.";
 
 /// The verbs' examples in an order in which each finds what it needs; the tests run them.
 pub const EXAMPLES: [(&str, &str); 11] = [
@@ -280,8 +281,8 @@ pub struct RequestWords {
     #[arg(long, value_name = "10.1.2.3", value_parser = values::peer, help_heading = "Request")]
     pub peer: Option<Ipv4Addr>,
 
-    /// The host's policy digest
-    #[arg(long, value_name = "HEX", value_parser = values::digest, help_heading = "Request")]
+    /// The host's policy digest, 64 hex digits
+    #[arg(long, value_name = "DIGEST", value_parser = values::digest, help_heading = "Request")]
     pub digest: Option<String>,
 
     /// The rate that the host keeps to
@@ -347,7 +348,11 @@ pub struct ShowWords {
     pub table: Option<PathBuf>,
 
     /// Shows the table's keys too
-    #[arg(long, requires = "table", conflicts_with_all = ["token", "token_text"])]
+    #[arg(
+        long,
+        requires = "table",
+        conflicts_with_all = ["token", "token_text", "request", "scope", "caveat", "bundle"]
+    )]
     pub keys: bool,
 
     #[command(flatten)]

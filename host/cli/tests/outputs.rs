@@ -58,10 +58,17 @@ fn what_cannot_be_written_is_said() {
 fn a_device_is_written_as_it_is() {
     let folder = with_token("devices");
     let (status, _, said) = folder.call("scope --methods GET --out /dev/full");
-    let full = "bhinorpa: /dev/full cannot be written, and nothing was changed: No space left on device\n";
+    let full = "bhinorpa: /dev/full cannot be written: No space left on device\n";
     assert_eq!((status, said.as_str()), (2, full));
     assert_eq!(folder.call("scope --methods GET --out /dev/null"), (0, String::new(), String::new()));
     assert_eq!(folder.call("scope --methods GET --out /dev/stdout | cat").1, "a1676d6574686f64738163474554\n");
+    // A file that is open already is written to where it stands, or not at all.
+    folder.shell("{ echo first; bhinorpa scope --methods GET --out /dev/stdout; echo last; } >log");
+    assert_eq!(folder.read("log"), b"first\na1676d6574686f64738163474554\nlast\n");
+    let (status, _, said) = folder.shell("echo old >errs; bhinorpa scope --methods GET --out /dev/stderr 2>>errs; echo $? >&2");
+    assert_eq!((status, said.as_str()), (0, "2\n"));
+    assert_eq!(folder.read("errs"), b"old\nbhinorpa: /dev/stderr cannot be written: it leads to an open file\n");
+    assert_eq!(folder.good("scope --methods GET --out /dev/fd/3 3>&1 | cat"), "a1676d6574686f64738163474554\n");
     let is_device = |name: &str| !fs::metadata(name).unwrap().is_file();
     assert!(is_device("/dev/full") && is_device("/dev/null"));
 }
@@ -157,6 +164,13 @@ fn input_is_read_no_further_than_it_may_go() {
         let (_, _, errors) = folder.shell(&format!("yes 0 | tr -d '\\n' | bhinorpa {words}"));
         assert!(errors.contains(said), "{words}: {errors}");
     }
+    // What is left is for whoever reads next.
+    for (words, most) in [("show --request -", 1335), ("show --table -", 10_624), ("show --bundle -", 65_536)] {
+        let (_, left, _) = folder.shell(&format!("head -c 100000 /dev/zero | {{ bhinorpa {words} >/dev/null 2>&1; wc -c; }}"));
+        assert_eq!(left.trim(), (100_000 - most - 1).to_string(), "{words}");
+    }
+    let (_, left, _) = folder.shell("echo kept | { bhinorpa verify --table keys --token - 2>/dev/null; cat; }");
+    assert_eq!(left, "kept\n");
     let (_, shown, _) = folder.shell("yes 0 | bhinorpa show --bundle -");
     assert_eq!(shown, "bundle.bad: over 65,536 bytes\n");
     assert!(began.elapsed().as_secs() < 120, "{} s", began.elapsed().as_secs());
