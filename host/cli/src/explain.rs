@@ -1,6 +1,8 @@
 //! Why the library refuses, in words. The library stays the judge: a word is named here only where the library
 //! refuses that word alone, beside others that it takes, and the rule is said with the library's answer.
 
+use std::slice;
+
 use crate::caveats::{Caveat, Value};
 use crate::library::{
     caveat_answer, request_answer, scope_answer, table_is_good, KID_UNKNOWN, MAC_MISMATCH, PARSE_B64, PARSE_BOUNDS,
@@ -49,7 +51,7 @@ fn methods_fault(option: &str, list: &[String]) -> Fault {
     if !methods_taken(&vec!["A".to_owned(); list.len()]) {
         return Some((format!("--{option} {}", said(&list.join(","))), METHODS));
     }
-    let bad = list.iter().find(|&method| !methods_taken(&[method.clone()]));
+    let bad = list.iter().find(|&method| !methods_taken(slice::from_ref(method)));
     bad.map(|method| (format!("--{option} {}", said(method)), METHOD))
 }
 
@@ -132,8 +134,10 @@ pub fn caveat<T>(caveat: &Caveat, what: &str, answer: u32) -> Done<T> {
     let rule = match &caveat.value {
         Value::Methods(list) => methods_fault(caveat.option, &list.0).map(|(_, rule)| rule),
         Value::Custom(custom) => {
-            let fault = custom_fault(custom);
-            return refused(answer, fault.map_or(what.to_owned(), |(part, _)| format!("{what}, {part}")), fault.map(|f| f.1));
+            return match custom_fault(custom) {
+                Some((part, rule)) => refused(answer, format!("{what}, {part}"), Some(rule)),
+                None => refused(answer, what, None),
+            };
         }
         Value::Text(_) => match caveat.option {
             "aud" => Some(AUDIENCE),

@@ -116,7 +116,9 @@ impl Out {
             Some(_) => fs::canonicalize(file).and_then(|place| write_whole(&place, bytes)),
             None => write_whole(file, bytes),
         };
-        done.or_else(|error| wrong(format!("{} cannot be written, and nothing was changed: {}", named(file), said(&error))))
+        done.or_else(|error| {
+            wrong(format!("{} cannot be written, and nothing was changed: {}", named(file), said(&error)))
+        })
     }
 }
 

@@ -27,8 +27,9 @@ pub fn man() -> Vec<u8> {
     page.control("SH", ["NAME"]);
     page.text([roman(format!("{NAME} - {}", about(&command).to_lowercase()))]);
     page.control("SH", ["SYNOPSIS"]);
-    let option = [roman(" ["), bold("--OPTION"), roman(" "), italic("VALUE"), roman("]... ["), italic("WORD"), roman("]")];
-    page.text([bold(NAME), roman(" "), italic("VERB")].into_iter().chain(option).collect::<Vec<_>>());
+    let front = [bold(NAME), roman(" "), italic("VERB"), roman(" ["), bold("--OPTION"), roman(" "), italic("VALUE")];
+    let rest = [roman("]... ["), italic("WORD"), roman("]")];
+    page.text(front.into_iter().chain(rest).collect::<Vec<_>>());
     page.control("SH", ["DESCRIPTION"]);
     let long = command.get_long_about().map(ToString::to_string).unwrap_or_default();
     for paragraph in long.split("\n\n") {

@@ -20,8 +20,8 @@ pub fn read(value: &str) -> Result<u64, String> {
     if time.nanosecond() != 0 {
         // A second 60 is read as the last part of second 59.
         let leap = !value.contains('.');
-        let why = if leap { "there is no such time: second must be in the range 0 to 59" } else { "times are whole seconds" };
-        return Err(why.to_owned());
+        let whole = "times are whole seconds";
+        return Err(if leap { "there is no such time: second must be in the range 0 to 59" } else { whole }.to_owned());
     }
     u64::try_from(time.unix_timestamp()).map_err(|_| "times begin with 1970".to_owned())
 }

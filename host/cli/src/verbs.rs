@@ -34,8 +34,8 @@ pub fn done(verb: Verb) -> Done<u8> {
 
 fn table(words: &TableWords) -> Done<()> {
     let rows = make::rows(words)?;
-    let records: Option<Vec<Vec<u8>>> = rows.iter().map(|row| make::row(&row.ids.tid, &row.ids.kid, &row.key)).collect();
-    match records.map(|records| records.concat()) {
+    let records = rows.iter().map(|row| make::row(&row.ids.tid, &row.ids.kid, &row.key));
+    match records.collect::<Option<Vec<_>>>().map(|records| records.concat()) {
         Some(table) if library::table_is_good(&table) => words.out.put_table(&table, &words.from),
         _ => explain::table(&rows, TABLE_BAD),
     }
@@ -146,7 +146,7 @@ fn verify(words: &VerifyWords) -> Done<u8> {
         0 => return Ok(0),
         CTX_BAD if words.file.is_none() => explain::request(&words.request, answer),
         CTX_BAD => refused(answer, words.file.iter().map(|file| request_named(file)).collect::<String>(), None),
-        ..=MAC_MISMATCH => {
+        TABLE_BAD..=MAC_MISMATCH => {
             explain::token(&token, &what, &format!("the table in {}", files::named(&words.table)), answer)
         }
         // The rest is the request's or the time's doing, and the line says it.

@@ -65,7 +65,8 @@ fn a_device_is_written_as_it_is() {
     // A file that is open already is written to where it stands, or not at all.
     folder.shell("{ echo first; bhinorpa scope --methods GET --out /dev/stdout; echo last; } >log");
     assert_eq!(folder.read("log"), b"first\na1676d6574686f64738163474554\nlast\n");
-    let (status, _, said) = folder.shell("echo old >errs; bhinorpa scope --methods GET --out /dev/stderr 2>>errs; echo $? >&2");
+    let line = "echo old >errs; bhinorpa scope --methods GET --out /dev/stderr 2>>errs; echo $? >&2";
+    let (status, _, said) = folder.shell(line);
     assert_eq!((status, said.as_str()), (0, "2\n"));
     assert_eq!(folder.read("errs"), b"old\nbhinorpa: /dev/stderr cannot be written: it leads to an open file\n");
     assert_eq!(folder.good("scope --methods GET --out /dev/fd/3 3>&1 | cat"), "a1676d6574686f64738163474554\n");
@@ -166,7 +167,8 @@ fn input_is_read_no_further_than_it_may_go() {
     }
     // What is left is for whoever reads next.
     for (words, most) in [("show --request -", 1335), ("show --table -", 10_624), ("show --bundle -", 65_536)] {
-        let (_, left, _) = folder.shell(&format!("head -c 100000 /dev/zero | {{ bhinorpa {words} >/dev/null 2>&1; wc -c; }}"));
+        let line = format!("head -c 100000 /dev/zero | {{ bhinorpa {words} >/dev/null 2>&1; wc -c; }}");
+        let (_, left, _) = folder.shell(&line);
         assert_eq!(left.trim(), (100_000 - most - 1).to_string(), "{words}");
     }
     let (_, left, _) = folder.shell("echo kept | { bhinorpa verify --table keys --token - 2>/dev/null; cat; }");
