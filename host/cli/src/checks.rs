@@ -1,6 +1,6 @@
 //! What the words alone can tell: a command that cannot be done is refused before anything is read.
 
-use std::path::Path;
+use std::path::{Path, PathBuf};
 
 use crate::caveats::Caveats;
 use crate::files::{is_input, Out};
@@ -9,7 +9,10 @@ use crate::problem::{wrong, Done};
 use crate::values::Hex;
 use crate::words::{ShowWords, TableWords, TokenWords, Verb};
 
-/// A file that is read, and the word that names it.
+/// The one word that belongs to no option.
+const FILE: &str = "FILE";
+
+/// A file that is read, and the option that names it.
 type Input<'a> = (&'static str, &'a Path);
 
 pub fn judged(verb: &Verb) -> Done<()> {
@@ -51,38 +54,38 @@ fn out(verb: &Verb) -> Option<&Out> {
 fn inputs(verb: &Verb) -> Vec<Input<'_>> {
     match verb {
         Verb::Table(words) => {
-            let from = words.from.iter().map(|file| ("--from", file.as_path()));
-            from.chain(words.row.iter().filter_map(|row| in_hex("--row", Some(&row.key)))).collect()
+            let from = words.from.iter().map(|file| ("from", file.as_path()));
+            from.chain(words.row.iter().filter_map(|row| in_hex("row", Some(&row.key)))).collect()
         }
         Verb::Caveat(words) => words.caveats.files(),
         Verb::Issue(words) => {
-            let table = [("--table", words.table.as_path())].into_iter();
-            table.chain(in_hex("--scope", words.scope_hex.as_ref())).chain(words.caveats.files()).collect()
+            let table = [("table", words.table.as_path())].into_iter();
+            table.chain(in_hex("scope", words.scope_hex.as_ref())).chain(words.caveats.files()).collect()
         }
         Verb::Narrow(words) => {
-            let table = [("--table", words.table.as_path())].into_iter();
-            table.chain(in_file("--token", &words.token.token)).chain(words.caveats.files()).collect()
+            let table = [("table", words.table.as_path())].into_iter();
+            table.chain(in_file("token", &words.token.token)).chain(words.caveats.files()).collect()
         }
         Verb::Verify(words) => {
-            let table = [("--table", words.table.as_path())].into_iter();
-            table.chain(in_file("--token", &words.token.token)).chain(in_file("--request", &words.file)).collect()
+            let table = [("table", words.table.as_path())].into_iter();
+            table.chain(in_file("token", &words.token.token)).chain(in_file("request", &words.file)).collect()
         }
         Verb::Bundle(words) => words.parts.files(),
         Verb::Show(words) => {
-            let files = [("--table", &words.table), ("--token", &words.token.token), ("--request", &words.request)];
-            let files = files.into_iter().chain([("--bundle", &words.bundle)]);
-            let hex = [("--scope", words.scope.as_ref()), ("--caveat", words.caveat.as_ref())];
+            let files = [("table", &words.table), ("token", &words.token.token), ("request", &words.request)];
+            let files = files.into_iter().chain([("bundle", &words.bundle)]);
+            let hex = [("scope", words.scope.as_ref()), ("caveat", words.caveat.as_ref())];
             let hex = hex.into_iter().filter_map(|(option, hex)| in_hex(option, hex));
             files.filter_map(|(option, file)| in_file(option, file)).chain(hex).collect()
         }
         Verb::Hash(words) => {
-            in_hex("--key", Some(&words.key)).into_iter().chain([("FILE", words.file.as_path())]).collect()
+            in_hex("key", Some(&words.key)).into_iter().chain([(FILE, words.file.as_path())]).collect()
         }
         Verb::Scope(_) | Verb::Request(_) | Verb::Man | Verb::Completions { .. } => vec![],
     }
 }
 
-fn in_file<'a>(option: &'static str, file: &'a Option<std::path::PathBuf>) -> Option<Input<'a>> {
+fn in_file<'a>(option: &'static str, file: &'a Option<PathBuf>) -> Option<Input<'a>> {
     file.as_deref().map(|file| (option, file))
 }
 
@@ -92,7 +95,8 @@ fn in_hex<'a>(option: &'static str, hex: Option<&'a Hex>) -> Option<Input<'a>> {
 
 /// Standard input has one thing in it, so one word may have it.
 fn one_reader(inputs: &[Input<'_>]) -> Done<()> {
-    let words: Vec<&str> = inputs.iter().filter(|(_, file)| is_input(file)).map(|(word, _)| *word).collect();
+    let named = |word: &str| if word == FILE { word.to_owned() } else { format!("--{word}") };
+    let words: Vec<String> = inputs.iter().filter(|(_, file)| is_input(file)).map(|(word, _)| named(word)).collect();
     if words.len() > 1 {
         return wrong(format!("{}: standard input has one thing in it", words.join(" and ")));
     }

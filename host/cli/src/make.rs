@@ -21,7 +21,7 @@ pub fn row(tid: &str, kid: &str, key: &[u8]) -> Option<Vec<u8>> {
     Some(record(1, &body))
 }
 
-/// A house record; a body of over 65,535 bytes has none, and comes to no caller's mind.
+/// A house record; whoever calls has seen that two bytes can say the body's length.
 pub fn record(kind: u16, body: &[u8]) -> Vec<u8> {
     [&(body.len() as u16).to_le_bytes(), &kind.to_le_bytes(), body].concat()
 }

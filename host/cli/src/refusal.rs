@@ -12,20 +12,14 @@ pub fn said(error: &Error) -> String {
     let arg = names(error, ContextKind::InvalidArg);
     let value = said_value(&texts(error, ContextKind::InvalidValue).join(" "));
     match error.kind() {
-        ErrorKind::ArgumentConflict => {
-            let prior = names(error, ContextKind::PriorArg);
-            if prior == arg {
-                return format!("{arg} stands twice, and may stand once");
-            }
-            format!("{arg} and {prior} cannot stand together")
-        }
+        ErrorKind::ArgumentConflict => conflict(&arg, &names(error, ContextKind::PriorArg)),
         ErrorKind::MissingRequiredArgument => {
             let are = if texts(error, ContextKind::InvalidArg).len() > 1 { "are" } else { "is" };
             format!("{arg} {are} missing")
         }
         ErrorKind::ValueValidation => {
             let why = error.source().map(ToString::to_string).unwrap_or_default();
-            format!("{arg} {value}: {why}")
+            format!("{}: {why}", without_key(&arg, &value))
         }
         ErrorKind::InvalidValue if texts(error, ContextKind::ValidValue).is_empty() => format!("{arg} needs a value"),
         ErrorKind::InvalidValue => {
@@ -33,13 +27,7 @@ pub fn said(error: &Error) -> String {
             format!("{arg} {value}: one of these is needed: {known}")
         }
         ErrorKind::TooManyValues => format!("{arg} takes no value, and {value} stands there"),
-        ErrorKind::UnknownArgument => {
-            let near = texts(error, ContextKind::SuggestedArg).join(" ");
-            let near = if near.is_empty() { near } else { format!("; there is {near}") };
-            let short = arg.starts_with('-') && !arg.starts_with("--");
-            let dash = if short { "; a value that begins with - is written --option=VALUE" } else { "" };
-            format!("{arg} is no word of this verb{near}{dash}")
-        }
+        ErrorKind::UnknownArgument => unknown(&arg, &texts(error, ContextKind::SuggestedArg).join(" ")),
         ErrorKind::InvalidSubcommand => {
             format!("there is no verb {}", texts(error, ContextKind::InvalidSubcommand).join(" "))
         }
@@ -48,6 +36,30 @@ pub fn said(error: &Error) -> String {
         }
         ErrorKind::InvalidUtf8 => "a word is not UTF-8".to_owned(),
         _ => first_line(error),
+    }
+}
+
+fn conflict(arg: &str, prior: &str) -> String {
+    if prior == arg {
+        return format!("{arg} stands twice, and may stand once");
+    }
+    format!("{arg} and {prior} cannot stand together")
+}
+
+fn unknown(arg: &str, near: &str) -> String {
+    let near = if near.is_empty() { String::new() } else { format!("; there is {near}") };
+    let short = arg.starts_with('-') && !arg.starts_with("--");
+    let dash = if short { "; a value that begins with - is written --option=VALUE" } else { "" };
+    format!("{arg} is no word of this verb{near}{dash}")
+}
+
+/// The option and its value, of which a key is left out: one with a wrong digit is a secret all the same, and
+/// messages go into logs.
+fn without_key(arg: &str, value: &str) -> String {
+    match (arg, value.split_once('=')) {
+        ("--key", _) => arg.to_owned(),
+        ("--row", Some((ids, _))) => format!("{arg} {ids}"),
+        _ => format!("{arg} {value}"),
     }
 }
 

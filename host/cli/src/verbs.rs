@@ -226,7 +226,7 @@ fn hash(words: &HashWords) -> Done<()> {
     let hashed = archive::keyed_hash(&key, &message);
     if hashed.answer != 0 {
         let long = message.len() > files::MESSAGE;
-        let what = if long { files::named(&words.file) } else { format!("--key {}", words.key.said()) };
+        let what = if long { files::named(&words.file) } else { "--key".to_owned() };
         let why = if long { "at most 8,192 bytes are hashed" } else { explain::KEY };
         return Err(Problem::Refused(hashed.answer, format!("{what}: {why}")));
     }
