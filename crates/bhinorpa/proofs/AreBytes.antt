@@ -8,9 +8,9 @@ use lib.Dec.{ltb}
 use lib.ListN.{length}
 use Rattle.basis.specs.Basis.{ascii, IsBytes}
 use Rattle.basis.proofs.Picks.{either, tested}
-use Rattle.heads.specs.Heads.{big, head}
-use Rattle.cbor.specs.Strings.{string}
-use Rattle.keys.specs.Maps.{text, entry}
+use Rattle.cbor_heads.specs.Heads.{big, head}
+use Rattle.cbor_strings.specs.Strings.{string}
+use Rattle.cbor_keys.specs.Maps.{text, entry}
 use Rattle.token.specs.Tokens.{tokenBytes}
 
 pub none-bytes : IsBytes []

@@ -7,13 +7,13 @@ use native.Mathlib.Omega.{arith}
 use lib.ListN.{length}
 use Rattle.basis.specs.Basis.{IsBytes}
 use Rattle.basis.proofs.All.{all}
-use Rattle.scope.specs.Scopes.{Scope}
-use Rattle.tables.specs.Tables.{Row, hasRow, keyIn}
-use Rattle.handing.specs.Handing.{Handed, answerOf, Handing}
-use Rattle.handing.specs.declared.Outcome.{Outcome}
-use Rattle.issuing.specs.Issuing.{issueOf}
-use Rattle.issuing.proofs.Fresh.{known-named}
-use Rattle.issuing.proofs.OneAnswer.{issue-one-answer}
+use Rattle.token_scope.specs.Scopes.{Scope}
+use Rattle.records_table.specs.Tables.{Row, hasRow, keyIn}
+use Rattle.outcome.specs.Handing.{Handed, answerOf, Handing}
+use Rattle.outcome.specs.declared.Outcome.{Outcome}
+use Rattle.issue.specs.Issuing.{issueOf}
+use Rattle.issue.proofs.Fresh.{known-named}
+use Rattle.issue.proofs.OneAnswer.{issue-one-answer}
 use Rattle.bhinorpa.specs.Allowed.{TableOf, tokenText, caveatBytes, chainTag}
 use Rattle.bhinorpa.specs.Handouts.{ScopeOf, Grant, freshToken, Issued}
 use Rattle.bhinorpa.specs.Verdicts.{out-short, done, IssueVerdict, issue-table-bad, issue-scope-bad, issue-kid-unknown, issue-grants, oneOf, issueAnswers}

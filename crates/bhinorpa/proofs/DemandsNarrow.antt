@@ -12,13 +12,13 @@ use Rattle.basis.specs.Basis.{pick, IsBytes}
 use Rattle.basis.specs.Same.{sameOf}
 use Rattle.basis.proofs.All.{all}
 use Rattle.basis.proofs.Sameness.{same-equal, equal-same}
-use Rattle.caveat.specs.Caveats.{Caveat}
+use Rattle.token_caveat.specs.Caveats.{Caveat}
 use Rattle.token.specs.Tokens.{Token, encodeToken}
-use Rattle.tables.specs.Tables.{Row, hasRow}
-use Rattle.handing.specs.Handing.{Handed, refused, handed, answerOf, Handing}
-use Rattle.handing.specs.declared.Outcome.{Outcome}
-use Rattle.narrowing.specs.Narrowing.{narrowOf}
-use Rattle.narrowing.proofs.OneAnswer.{narrow-one-answer}
+use Rattle.records_table.specs.Tables.{Row, hasRow}
+use Rattle.outcome.specs.Handing.{Handed, refused, handed, answerOf, Handing}
+use Rattle.outcome.specs.declared.Outcome.{Outcome}
+use Rattle.narrow.specs.Narrowing.{narrowOf}
+use Rattle.narrow.proofs.OneAnswer.{narrow-one-answer}
 use Rattle.bhinorpa.specs.Allowed.{TableOf, tokenText, Canonical, chainTag, keyFor}
 use Rattle.bhinorpa.specs.Handouts.{CaveatOf, Parent, childToken}
 use Rattle.bhinorpa.specs.Verdicts.{RoomVerdict, out-short, done, NarrowVerdict, narrow-table-bad, narrow-no-token, narrow-kid-unknown, narrow-mac, narrow-caveat-bad, narrow-full, narrow-size-full, narrow-child, oneOf, narrowAnswers}

@@ -4,13 +4,13 @@ use mathlib.Core.Bool.{true}
 use mathlib.Core.List.{List, [], _∷_, _++_}
 use Prim.Native.Nat.{ℕ}
 use lib.ListN.{take}
-use Rattle.base64url.specs.Reading.{bytesOf}
-use Rattle.base64url.proofs.TextLaws.{bytes-text}
-use Rattle.caveat.specs.Caveats.{Caveat}
+use Rattle.text_reading.specs.Reading.{bytesOf}
+use Rattle.text_reading.proofs.TextLaws.{bytes-text}
+use Rattle.token_caveat.specs.Caveats.{Caveat}
 use Rattle.token.specs.Tokens.{Token, encodeToken}
 use Rattle.token.proofs.OneToken.{token-one}
-use Rattle.tables.specs.Tables.{Row}
-use Rattle.requests.specs.Requests.{Request}
+use Rattle.records_table.specs.Tables.{Row}
+use Rattle.records_request.specs.Requests.{Request}
 use Rattle.rules.specs.Holding.{caveatHolds}
 use Rattle.bhinorpa.specs.Allowed.{tokenText, Canonical, chainTag, keyFor, EachHolds, AllHold, Allowed}
 use Rattle.bhinorpa.specs.Handouts.{childToken}

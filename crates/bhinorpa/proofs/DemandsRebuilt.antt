@@ -8,19 +8,19 @@ use borrow.Author.Tests.{lt-ltb, ltb-true, ltb-false}
 use lib.Dec.{ltb}
 use lib.ListN.{length, length-append}
 use Rattle.basis.specs.Basis.{pick, IsBytes}
-use Rattle.heads.specs.Heads.{big, head}
-use Rattle.cbor.specs.Strings.{string}
-use Rattle.chain.specs.Chain.{tagOf}
-use Rattle.chain.proofs.ChainLaws.{tag-length, tag-behind}
-use Rattle.scope.specs.Scopes.{encodeScope}
-use Rattle.caveat.specs.Caveats.{Caveat, encodeCaveat, GoodCaveat}
+use Rattle.cbor_heads.specs.Heads.{big, head}
+use Rattle.cbor_strings.specs.Strings.{string}
+use Rattle.hash_chain.specs.Chain.{tagOf}
+use Rattle.hash_chain.proofs.ChainLaws.{tag-length, tag-behind}
+use Rattle.token_scope.specs.Scopes.{encodeScope}
+use Rattle.token_caveat.specs.Caveats.{Caveat, encodeCaveat, GoodCaveat}
 use Rattle.token.specs.Tokens.{Token, encodeCaveats, tokenBytes, encodeToken, AllCaveats}
 use Rattle.token.proofs.WritingLaws.{caveats-behind}
-use Rattle.tables.specs.Tables.{Row}
-use Rattle.handing.specs.Handing.{Handed, handed, Handing}
-use Rattle.handing.proofs.Sizes.{short-text}
-use Rattle.issuing.specs.Issuing.{issueOf}
-use Rattle.narrowing.specs.Narrowing.{narrowOf}
+use Rattle.records_table.specs.Tables.{Row}
+use Rattle.outcome.specs.Handing.{Handed, handed, Handing}
+use Rattle.outcome.proofs.Sizes.{short-text}
+use Rattle.issue.specs.Issuing.{issueOf}
+use Rattle.narrow.specs.Narrowing.{narrowOf}
 use Rattle.bhinorpa.specs.Allowed.{tokenText, Canonical, caveatBytes, keyFor}
 use Rattle.bhinorpa.specs.Handouts.{CaveatOf, Grant, Parent, childToken, Call, leftBy, Narrowings, lastOf, AllDone}
 use Rattle.bhinorpa.specs.Verdicts.{RoomVerdict, out-short, done}

@@ -10,14 +10,14 @@ use Rattle.basis.specs.Same.{sameOf}
 use Rattle.basis.proofs.All.{all, all-at}
 use Rattle.basis.proofs.Sameness.{same-equal, equal-same}
 use Rattle.answers.specs.Answers.{numberOf}
-use Rattle.caveat.specs.Caveats.{Caveat}
+use Rattle.token_caveat.specs.Caveats.{Caveat}
 use Rattle.token.specs.Tokens.{Token}
-use Rattle.tables.specs.Tables.{Row, hasRow}
-use Rattle.requests.specs.Requests.{Request}
+use Rattle.records_table.specs.Tables.{Row, hasRow}
+use Rattle.records_request.specs.Requests.{Request}
 use Rattle.rules.specs.Holding.{failing, caveatHolds}
 use Rattle.rules.proofs.Meanings as meanings
-use Rattle.judging.specs.Verifying.{verifyOf}
-use Rattle.judging.proofs.Numbers.{verify-low}
+use Rattle.verify.specs.Verifying.{verifyOf}
+use Rattle.verify.proofs.Numbers.{verify-low}
 use Rattle.bhinorpa.specs.Allowed.{TableOf, RequestOf, chainTag, keyFor, methodHolds, pathHolds, bytesHold, firstFailing, caveatChecks, scopeChecks, checksOf, EachHolds, AllHold, Allowed}
 use Rattle.bhinorpa.specs.Verdicts.{Verdict, table-bad, ctx-bad, no-token, judged, oneOf, verifyAnswers}
 use Rattle.bhinorpa.specs.Demands.{VerifyList, FirstFailing, VerdictOne, AllowedExactly, FirstBits, NoPeer}

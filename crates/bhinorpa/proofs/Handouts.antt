@@ -8,14 +8,14 @@ use lib.ListN.{length}
 use Rattle.basis.specs.Basis.{IsBytes}
 use Rattle.text_writing.specs.Base64url.{base64url}
 use Rattle.keyed_hash.specs.KeyedHash.{hash-bytes}
-use Rattle.chain.specs.Chain.{firstMessage, nextMessage, firstLink, nextLink, chainOf, tagOf}
-use Rattle.chain.proofs.ChainLaws.{next-length, tag-length, tag-behind}
-use Rattle.scope.specs.Scopes.{Scope, encodeScope, GoodScope}
-use Rattle.caveat.specs.Caveats.{Caveat, encodeCaveat, GoodCaveat}
+use Rattle.hash_chain.specs.Chain.{firstMessage, nextMessage, firstLink, nextLink, chainOf, tagOf}
+use Rattle.hash_chain.proofs.ChainLaws.{next-length, tag-length, tag-behind}
+use Rattle.token_scope.specs.Scopes.{Scope, encodeScope, GoodScope}
+use Rattle.token_caveat.specs.Caveats.{Caveat, encodeCaveat, GoodCaveat}
 use Rattle.token.specs.Tokens.{Token, encodeCaveats, encodeToken}
 use Rattle.token.proofs.WritingLaws.{fresh-written, fresh-good, fresh-short, child-written, child-good}
-use Rattle.tables.specs.Tables.{Row, GoodTable, hasRow, keyIn}
-use Rattle.issuing.proofs.Fresh.{known-named}
+use Rattle.records_table.specs.Tables.{Row, GoodTable, hasRow, keyIn}
+use Rattle.issue.proofs.Fresh.{known-named}
 use Rattle.bhinorpa.specs.Allowed.{Canonical, caveatBytes, chainTag, keyFor}
 use Rattle.bhinorpa.specs.Handouts.{freshToken, childToken}
 use Rattle.bhinorpa.proofs.AreBytes.{none-bytes, both-bytes, token-bytes, parts-bytes}

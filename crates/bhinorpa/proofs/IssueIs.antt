@@ -6,16 +6,16 @@ use Prim.Native.Nat.{ℕ}
 use native.Mathlib.Omega.{arith}
 use lib.ListN.{length}
 use Rattle.basis.specs.Basis.{pick, IsBytes}
-use Rattle.chain.specs.Chain.{firstLink, chainOf, tagOf}
-use Rattle.scope.specs.Scopes.{Scope, encodeScope}
-use Rattle.scope.proofs.ScopeWritten.{scope-written}
+use Rattle.hash_chain.specs.Chain.{firstLink, chainOf, tagOf}
+use Rattle.token_scope.specs.Scopes.{Scope, encodeScope}
+use Rattle.token_scope.proofs.ScopeWritten.{scope-written}
 use Rattle.token.proofs.WritingLaws.{fresh-written}
-use Rattle.tables.specs.Tables.{Row, encodeTable, hasRow, keyIn}
-use Rattle.tables.specs.Reading.{findFrom}
-use Rattle.tables.proofs.TableLaws.{find-finds, key-of-row}
-use Rattle.handing.specs.Handing.{refused, handed}
-use Rattle.issuing.specs.Issuing.{issueWith, issueOf}
-use Rattle.issuing.proofs.Fresh.{issue-bad-table, issue-bad-scope, issue-left-over, issue-found}
+use Rattle.records_table.specs.Tables.{Row, encodeTable, hasRow, keyIn}
+use Rattle.records_table.specs.Reading.{findFrom}
+use Rattle.records_table.proofs.TableLaws.{find-finds, key-of-row}
+use Rattle.outcome.specs.Handing.{refused, handed}
+use Rattle.issue.specs.Issuing.{issueWith, issueOf}
+use Rattle.issue.proofs.Fresh.{issue-bad-table, issue-bad-scope, issue-left-over, issue-found}
 use Rattle.bhinorpa.specs.Allowed.{TableOf, tokenText}
 use Rattle.bhinorpa.specs.Handouts.{ScopeOf, Grant, freshToken}
 use Rattle.bhinorpa.specs.Verdicts.{NoTable, ScopeDefect, scope-unreadable, scope-left-over}

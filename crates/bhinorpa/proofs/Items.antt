@@ -5,18 +5,18 @@ use Prim.Native.Nat.{ℕ, _+_, _≤_}
 use native.Mathlib.Omega.{arith}
 use lib.ListN.{length, drop, length-append}
 use Rattle.basis.specs.Basis.{IsBytes}
-use Rattle.scope.specs.Scopes.{Scope, encodeScope, GoodScope}
-use Rattle.scope.specs.Reading.{scopeOf}
-use Rattle.scope.specs.declared.ScopeParts.{ScopeParts}
-use Rattle.scope.specs.declared.ScopeParts.the-variants.{Of as ScopeAt, Bad as NoScope}
-use Rattle.scope.proofs.ScopeRead.{scope-read}
-use Rattle.scope.proofs.DefectKinds.{scope-kind}
-use Rattle.caveat.specs.Caveats.{Caveat, encodeCaveat, GoodCaveat}
-use Rattle.caveat.specs.Reading.{caveatOf}
-use Rattle.caveat_values.specs.declared.CaveatParts.{CaveatParts}
-use Rattle.caveat_values.specs.declared.CaveatParts.the-variants.{Of as CaveatAt, Bad as NoCaveat}
-use Rattle.caveat.proofs.CaveatLaws.{caveat-read}
-use Rattle.caveat.proofs.DefectKinds.{caveat-kind}
+use Rattle.token_scope.specs.Scopes.{Scope, encodeScope, GoodScope}
+use Rattle.token_scope.specs.Reading.{scopeOf}
+use Rattle.token_scope.specs.declared.ScopeParts.{ScopeParts}
+use Rattle.token_scope.specs.declared.ScopeParts.the-variants.{Of as ScopeAt, Bad as NoScope}
+use Rattle.token_scope.proofs.ScopeRead.{scope-read}
+use Rattle.token_scope.proofs.DefectKinds.{scope-kind}
+use Rattle.token_caveat.specs.Caveats.{Caveat, encodeCaveat, GoodCaveat}
+use Rattle.token_caveat.specs.Reading.{caveatOf}
+use Rattle.token_caveat_values.specs.declared.CaveatParts.{CaveatParts}
+use Rattle.token_caveat_values.specs.declared.CaveatParts.the-variants.{Of as CaveatAt, Bad as NoCaveat}
+use Rattle.token_caveat.proofs.CaveatLaws.{caveat-read}
+use Rattle.token_caveat.proofs.DefectKinds.{caveat-kind}
 use Rattle.bhinorpa.specs.Handouts.{ScopeOf, CaveatOf}
 use Rattle.bhinorpa.specs.Verdicts.{ScopeDefect, scope-unreadable, scope-left-over, CaveatDefect, caveat-unreadable, caveat-left-over}
 

@@ -12,26 +12,26 @@ use Rattle.basis.specs.Basis.{pick, between}
 use Rattle.basis.specs.Same.{sameOf}
 use Rattle.basis.proofs.Parts.{past}
 use Rattle.answers.specs.Answers.{numberOf}
-use Rattle.chain.specs.Chain.{firstLink, nextLink, chainOf, tagOf}
-use Rattle.scope.specs.Scopes.{Scope, encodeScope, GoodScope}
-use Rattle.scope.proofs.ScopeWritten.{scope-written}
-use Rattle.caveat.specs.Caveats.{Caveat, encodeCaveat}
-use Rattle.caveat.specs.Caveats.{exp, nbf, aud, method, path-prefix, ip-cidr, bytes-le, rate, tenant, amnesia, gov-policy-digest, custom}
-use Rattle.caveat.proofs.CaveatLaws.{partOf, caveat-written}
+use Rattle.hash_chain.specs.Chain.{firstLink, nextLink, chainOf, tagOf}
+use Rattle.token_scope.specs.Scopes.{Scope, encodeScope, GoodScope}
+use Rattle.token_scope.proofs.ScopeWritten.{scope-written}
+use Rattle.token_caveat.specs.Caveats.{Caveat, encodeCaveat}
+use Rattle.token_caveat.specs.Caveats.{exp, nbf, aud, method, path-prefix, ip-cidr, bytes-le, rate, tenant, amnesia, gov-policy-digest, custom}
+use Rattle.token_caveat.proofs.CaveatLaws.{partOf, caveat-written}
 use Rattle.token.specs.Tokens.{Token, encodeCaveats, encodeToken, AllCaveats, GoodToken}
 use Rattle.token.proofs.TokenWritten.{token-written}
 use Rattle.token.proofs.Holds.{Holds}
-use Rattle.tables.specs.Tables.{Row, encodeTable, GoodTable}
-use Rattle.tables.proofs.TableLaws.{find-finds, key-of-row}
-use Rattle.requests.specs.Requests.{Request}
+use Rattle.records_table.specs.Tables.{Row, encodeTable, GoodTable}
+use Rattle.records_table.proofs.TableLaws.{find-finds, key-of-row}
+use Rattle.records_request.specs.Requests.{Request}
 use Rattle.rules.specs.Holding.{failing, caveatHolds, scopeAnswer, caveatAnswer}
 use Rattle.rules.specs.declared.Asked.{Asked}
 use Rattle.rules.proofs.RuleLaws.{AskedOf, scope-law, caveat-law}
-use Rattle.walking.specs.Walking.{soFar, walkEnds, afterCaveat, walkedOf, scopeAt, tenantThen, tagThen, keyThen}
-use Rattle.judging.specs.Verifying.{keyFound, tokenThen, bytesThen}
+use Rattle.verify_walk.specs.Walking.{soFar, walkEnds, afterCaveat, walkedOf, scopeAt, tenantThen, tagThen, keyThen}
+use Rattle.verify.specs.Verifying.{keyFound, tokenThen, bytesThen}
 use Rattle.bhinorpa.specs.Allowed.{caveatBytes, chainTag, keyFor, methodHolds, pathHolds, bytesHold, firstFailing, caveatChecks, scopeChecks, checksOf}
-use Rattle.walking.specs.declared.Walked.{Walked}
-use Rattle.judging.proofs.Found.{placed}
+use Rattle.verify_walk.specs.declared.Walked.{Walked}
+use Rattle.verify.proofs.Found.{placed}
 
 -- answers one behind the other
 so-far-none : (a : ℕ) → soFar a 0 ≡ a

@@ -10,18 +10,18 @@ use lib.ListN.{length}
 use Rattle.basis.specs.Basis.{pick, IsBytes}
 use Rattle.basis.specs.Same.{sameOf}
 use Rattle.basis.proofs.Sameness.{same-equal, equal-same}
-use Rattle.base64url.specs.Reading.{decodedOf}
-use Rattle.chain.specs.Chain.{nextLink}
-use Rattle.caveat.specs.Caveats.{Caveat, encodeCaveat}
-use Rattle.caveat.specs.Reading.{caveatOf}
-use Rattle.caveat.proofs.CaveatLaws.{caveat-written}
+use Rattle.text_reading.specs.Reading.{decodedOf}
+use Rattle.hash_chain.specs.Chain.{nextLink}
+use Rattle.token_caveat.specs.Caveats.{Caveat, encodeCaveat}
+use Rattle.token_caveat.specs.Reading.{caveatOf}
+use Rattle.token_caveat.proofs.CaveatLaws.{caveat-written}
 use Rattle.token.specs.Tokens.{Token, encodeToken}
 use Rattle.token.proofs.WritingLaws.{child-written}
-use Rattle.tables.specs.Tables.{Row, hasRow}
-use Rattle.handing.specs.Handing.{refused, handed}
-use Rattle.growing.specs.Growing.{sized}
-use Rattle.narrowing.specs.Narrowing.{tokenThen, bytesThen, decodedThen, textThen, narrowOf}
-use Rattle.narrowing.proofs.Narrowed.{narrow-too-long, narrow-bad-table, narrow-good-table}
+use Rattle.records_table.specs.Tables.{Row, hasRow}
+use Rattle.outcome.specs.Handing.{refused, handed}
+use Rattle.narrow_child.specs.Growing.{sized}
+use Rattle.narrow.specs.Narrowing.{tokenThen, bytesThen, decodedThen, textThen, narrowOf}
+use Rattle.narrow.proofs.Narrowed.{narrow-too-long, narrow-bad-table, narrow-good-table}
 use Rattle.bhinorpa.specs.Allowed.{TableOf, tokenText, Canonical, chainTag, keyFor}
 use Rattle.bhinorpa.specs.Handouts.{CaveatOf, Parent, childToken}
 use Rattle.bhinorpa.specs.Verdicts.{NoTable, TextDefect, CaveatDefect, caveat-unreadable, caveat-left-over}

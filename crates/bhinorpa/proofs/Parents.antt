@@ -9,27 +9,27 @@ use Rattle.basis.specs.Basis.{pick, between}
 use Rattle.basis.specs.Same.{sameOf}
 use Rattle.basis.proofs.Parts.{past}
 use Rattle.text_writing.specs.Base64url.{base64url}
-use Rattle.base64url.specs.Reading.{decodedOf}
-use Rattle.base64url.proofs.TextLaws.{bytes-text, judged-text}
-use Rattle.chain.specs.Chain.{firstLink, nextLink, chainOf, tagOf}
-use Rattle.scope.specs.Scopes.{encodeScope}
-use Rattle.caveat.specs.Caveats.{Caveat, encodeCaveat}
-use Rattle.caveat.specs.Reading.{caveatOf}
-use Rattle.caveat_values.specs.declared.CaveatParts.{CaveatParts}
-use Rattle.caveat_values.specs.declared.CaveatParts.the-variants.{Of, Bad}
-use Rattle.caveat.proofs.CaveatLaws.{caveat-written}
+use Rattle.text_reading.specs.Reading.{decodedOf}
+use Rattle.text_reading.proofs.TextLaws.{bytes-text, judged-text}
+use Rattle.hash_chain.specs.Chain.{firstLink, nextLink, chainOf, tagOf}
+use Rattle.token_scope.specs.Scopes.{encodeScope}
+use Rattle.token_caveat.specs.Caveats.{Caveat, encodeCaveat}
+use Rattle.token_caveat.specs.Reading.{caveatOf}
+use Rattle.token_caveat_values.specs.declared.CaveatParts.{CaveatParts}
+use Rattle.token_caveat_values.specs.declared.CaveatParts.the-variants.{Of, Bad}
+use Rattle.token_caveat.proofs.CaveatLaws.{caveat-written}
 use Rattle.token.specs.Tokens.{Token, encodeCaveats, encodeToken, AllCaveats, GoodToken}
 use Rattle.token.specs.Writing.{childBytes}
 use Rattle.token.proofs.TokenWritten.{token-written}
 use Rattle.token.proofs.Holds.{Holds}
-use Rattle.tables.specs.Tables.{Row, encodeTable, GoodTable, hasRow}
-use Rattle.tables.proofs.TableLaws.{table-written, find-finds, key-of-row}
-use Rattle.walking.specs.Walking.{afterCaveat}
-use Rattle.judging.proofs.Found.{placed}
-use Rattle.handing.specs.Handing.{Handed, refused}
-use Rattle.growing.specs.Growing.{sized, grown, caveatThen}
-use Rattle.narrowing.specs.Narrowing.{linksOf, linkThen, keyThen, tokenThen, bytesThen, decodedThen, textThen, narrowOf}
-use Rattle.handing.proofs.Sizes.{short-text}
+use Rattle.records_table.specs.Tables.{Row, encodeTable, GoodTable, hasRow}
+use Rattle.records_table.proofs.TableLaws.{table-written, find-finds, key-of-row}
+use Rattle.verify_walk.specs.Walking.{afterCaveat}
+use Rattle.verify.proofs.Found.{placed}
+use Rattle.outcome.specs.Handing.{Handed, refused}
+use Rattle.narrow_child.specs.Growing.{sized, grown, caveatThen}
+use Rattle.narrow.specs.Narrowing.{linksOf, linkThen, keyThen, tokenThen, bytesThen, decodedThen, textThen, narrowOf}
+use Rattle.outcome.proofs.Sizes.{short-text}
 use Rattle.bhinorpa.specs.Allowed.{Canonical, caveatBytes, chainTag, keyFor}
 use Rattle.bhinorpa.proofs.Judged.{front-held}
 

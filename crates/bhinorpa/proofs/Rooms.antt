@@ -11,8 +11,8 @@ use lib.Seq.{take-at}
 use Rattle.basis.specs.Basis.{pick, over}
 use Rattle.text_writing.proofs.Writings.{text-length}
 use Rattle.token.specs.Tokens.{Token, encodeToken}
-use Rattle.handing.specs.Handing.{Handed, refused, handed, Handing}
-use Rattle.handing.specs.declared.Outcome.{Outcome}
+use Rattle.outcome.specs.Handing.{Handed, refused, handed, Handing}
+use Rattle.outcome.specs.declared.Outcome.{Outcome}
 use Rattle.bhinorpa.specs.Allowed.{tokenText, Canonical}
 use Rattle.bhinorpa.specs.Handouts.{Wrote}
 use Rattle.bhinorpa.specs.Verdicts.{Refuses, Writes, RoomVerdict, out-short, done}

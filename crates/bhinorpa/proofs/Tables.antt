@@ -5,9 +5,9 @@ use mathlib.Core.List.{List}
 use Prim.Native.Nat.{ℕ}
 use native.Mathlib.Omega.{arith}
 use Rattle.basis.specs.Basis.{pick, IsBytes}
-use Rattle.tables.specs.Tables.{Row}
-use Rattle.tables.specs.Reading.{tableOk}
-use Rattle.tables.proofs.TableLaws.{table-written, table-read}
+use Rattle.records_table.specs.Tables.{Row}
+use Rattle.records_table.specs.Reading.{tableOk}
+use Rattle.records_table.proofs.TableLaws.{table-written, table-read}
 use Rattle.bhinorpa.specs.Allowed.{TableOf}
 use Rattle.bhinorpa.specs.Verdicts.{NoTable}
 

@@ -10,11 +10,11 @@ use lib.Dec.{ltb}
 use lib.ListN.{length}
 use Rattle.basis.specs.Basis.{IsBytes}
 use Rattle.text_writing.specs.Base64url.{base64url}
-use Rattle.base64url.specs.Reading.{byteLength, judgedOf, bytesOf}
-use Rattle.base64url.specs.declared.Judged.{Judged}
-use Rattle.base64url.specs.declared.Judged.the-variants.{Whole, Fault}
-use Rattle.base64url.proofs.Decoding.{sound}
-use Rattle.base64url.proofs.TextLaws.{bytes-text, judged-text, whole-text, whole-bytes, whole-length}
+use Rattle.text_reading.specs.Reading.{byteLength, judgedOf, bytesOf}
+use Rattle.text_reading.specs.declared.Judged.{Judged}
+use Rattle.text_reading.specs.declared.Judged.the-variants.{Whole, Fault}
+use Rattle.text_reading.proofs.Decoding.{sound}
+use Rattle.text_reading.proofs.TextLaws.{bytes-text, judged-text, whole-text, whole-bytes, whole-length}
 use Rattle.token.specs.Tokens.{Token, encodeToken}
 use Rattle.token.specs.Reading.{tokenOf}
 use Rattle.token.specs.declared.TokenParts.{TokenParts}
@@ -22,7 +22,7 @@ use Rattle.token.specs.declared.TokenParts.the-variants.{Of, Bad}
 use Rattle.token.proofs.TokenWritten.{token-written}
 use Rattle.token.proofs.TokenRead.{token-read}
 use Rattle.token.proofs.DefectKinds.{token-kind}
-use Rattle.handing.proofs.Sizes.{short-text}
+use Rattle.outcome.proofs.Sizes.{short-text}
 use Rattle.bhinorpa.specs.Allowed.{Canonical}
 use Rattle.bhinorpa.specs.Verdicts.{TextDefect, too-long, no-base64, unreadable}
 use Rattle.bhinorpa.specs.Demands.{DefectNoToken}

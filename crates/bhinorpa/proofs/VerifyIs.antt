@@ -7,24 +7,24 @@ use borrow.Author.Tests.{le-ltb, le-leb}
 use lib.ListN.{length}
 use Rattle.basis.specs.Basis.{IsBytes}
 use Rattle.text_writing.specs.Base64url.{base64url}
-use Rattle.base64url.specs.Reading.{decodedOf}
-use Rattle.base64url.proofs.TextLaws.{bytes-text, judged-text}
+use Rattle.text_reading.specs.Reading.{decodedOf}
+use Rattle.text_reading.proofs.TextLaws.{bytes-text, judged-text}
 use Rattle.token.specs.Tokens.{Token, encodeToken}
-use Rattle.tables.specs.Tables.{Row, encodeTable, GoodTable}
-use Rattle.tables.specs.Reading.{tableOk}
-use Rattle.tables.proofs.TableLaws.{table-written}
-use Rattle.requests.specs.Requests.{Request, encodeRequest}
-use Rattle.requests.specs.Reading.{requestOf}
-use Rattle.requests.specs.declared.RequestParts.{RequestParts}
-use Rattle.requests.specs.declared.RequestParts.the-variants.{Of, Bad}
-use Rattle.requests.proofs.Holds.{Holds}
-use Rattle.requests.proofs.RequestWritten.{request-written}
-use Rattle.requests.proofs.RequestRead.{request-read}
+use Rattle.records_table.specs.Tables.{Row, encodeTable, GoodTable}
+use Rattle.records_table.specs.Reading.{tableOk}
+use Rattle.records_table.proofs.TableLaws.{table-written}
+use Rattle.records_request.specs.Requests.{Request, encodeRequest}
+use Rattle.records_request.specs.Reading.{requestOf}
+use Rattle.records_request.specs.declared.RequestParts.{RequestParts}
+use Rattle.records_request.specs.declared.RequestParts.the-variants.{Of, Bad}
+use Rattle.records_request.proofs.Holds.{Holds}
+use Rattle.records_request.proofs.RequestWritten.{request-written}
+use Rattle.records_request.proofs.RequestRead.{request-read}
 use Rattle.rules.specs.declared.Asked.{Asked}
 use Rattle.rules.proofs.RuleLaws.{AskedOf}
-use Rattle.handing.proofs.Sizes.{short-text}
-use Rattle.judging.specs.Verifying.{tokenThen, bytesThen, decodedThen, textThen, requestThen, verifyOf}
-use Rattle.judging.proofs.Decoding.{too-long as long-is}
+use Rattle.outcome.proofs.Sizes.{short-text}
+use Rattle.verify.specs.Verifying.{tokenThen, bytesThen, decodedThen, textThen, requestThen, verifyOf}
+use Rattle.verify.proofs.Decoding.{too-long as long-is}
 use Rattle.bhinorpa.specs.Allowed.{TableOf, RequestOf, Canonical, firstFailing, checksOf}
 use Rattle.bhinorpa.specs.Verdicts.{TextDefect, NoRequest}
 use Rattle.bhinorpa.proofs.Judged.{token-law}

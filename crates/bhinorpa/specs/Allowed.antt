@@ -12,14 +12,14 @@ use Rattle.answers.specs.Answers.{numberOf}
 use Rattle.answers.specs.declared.Answer.{Answer}
 use Rattle.answers.specs.declared.Answer.the-variants.{Allow, KidUnknown, MacMismatch, TenantMismatch, CaveatMethod, CaveatPath, CaveatBytes}
 use Rattle.text_writing.specs.Base64url.{base64url}
-use Rattle.chain.specs.Chain.{tagOf}
-use Rattle.scope.specs.Scopes.{Scope, encodeScope}
-use Rattle.caveat.specs.Caveats.{Caveat, encodeCaveat}
+use Rattle.hash_chain.specs.Chain.{tagOf}
+use Rattle.token_scope.specs.Scopes.{Scope, encodeScope}
+use Rattle.token_caveat.specs.Caveats.{Caveat, encodeCaveat}
 use Rattle.token.specs.Tokens.{Token, encodeToken, GoodToken}
-use Rattle.tables.specs.Tables.{Row, encodeTable, GoodTable, hasRow, keyIn}
-use Rattle.requests.specs.Requests.{Request, encodeRequest, GoodRequest}
+use Rattle.records_table.specs.Tables.{Row, encodeTable, GoodTable, hasRow, keyIn}
+use Rattle.records_request.specs.Requests.{Request, encodeRequest, GoodRequest}
 use Rattle.rules.specs.Holding.{memberOf, ifThere, failing, caveatHolds}
-use Rattle.comparing.specs.Fitting.{fitsOf}
+use Rattle.rules_compare.specs.Fitting.{fitsOf}
 
 -- the rows that a table's bytes are, and what a request's body asks
 pub record TableOf (table : List ℕ) (rows : List Row) : Type 0 where

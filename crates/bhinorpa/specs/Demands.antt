@@ -11,21 +11,21 @@ use lib.ListN.{length, take}
 use Rattle.basis.specs.Basis.{pick, IsBytes}
 use Rattle.answers.specs.Answers.{numberOf}
 use Rattle.answers.specs.declared.Answer.the-variants.{Allow, CavFull, SizeFull, OutShort}
-use Rattle.cbor.specs.declared.Class.the-variants.{Name}
-use Rattle.keys.specs.Maps.{GoodText}
-use Rattle.cidr.specs.Prefixes.{Prefix, Good}
-use Rattle.cidr.specs.Bits.{Agree}
-use Rattle.scope.specs.Scopes.{Scope, encodeScope}
-use Rattle.caveat.specs.Caveats.{Caveat, ip-cidr}
+use Rattle.cbor_strings.specs.declared.Class.the-variants.{Name}
+use Rattle.cbor_keys.specs.Maps.{GoodText}
+use Rattle.token_cidr.specs.Prefixes.{Prefix, Good}
+use Rattle.token_cidr.specs.Bits.{Agree}
+use Rattle.token_scope.specs.Scopes.{Scope, encodeScope}
+use Rattle.token_caveat.specs.Caveats.{Caveat, ip-cidr}
 use Rattle.token.specs.Tokens.{Token, encodeToken}
-use Rattle.tables.specs.Tables.{Row, GoodTable, hasRow}
-use Rattle.requests.specs.Requests.{Request}
+use Rattle.records_table.specs.Tables.{Row, GoodTable, hasRow}
+use Rattle.records_request.specs.Requests.{Request}
 use Rattle.rules.specs.Holding.{addressBytes, caveatHolds}
-use Rattle.judging.specs.Verifying.{verifyOf}
-use Rattle.handing.specs.Handing.{Handed, Handing}
-use Rattle.handing.specs.declared.Outcome.{Outcome}
-use Rattle.issuing.specs.Issuing.{issueOf}
-use Rattle.narrowing.specs.Narrowing.{narrowOf}
+use Rattle.verify.specs.Verifying.{verifyOf}
+use Rattle.outcome.specs.Handing.{Handed, Handing}
+use Rattle.outcome.specs.declared.Outcome.{Outcome}
+use Rattle.issue.specs.Issuing.{issueOf}
+use Rattle.narrow.specs.Narrowing.{narrowOf}
 use Rattle.bhinorpa.specs.Allowed.{TableOf, RequestOf, tokenText, Canonical, caveatBytes, Allowed}
 use Rattle.bhinorpa.specs.Handouts.{CaveatOf, Grant, Parent, freshToken, childToken, Issued, Narrowed, NarrowsExactly, Call, leftBy, Narrowings, lastOf, AllDone}
 use Rattle.bhinorpa.specs.Verdicts.{TextDefect, Verdict, IssueVerdict, NarrowVerdict, oneOf, verifyAnswers, issueAnswers, narrowAnswers}

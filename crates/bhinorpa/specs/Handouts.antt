@@ -7,17 +7,17 @@ use Prim.Native.Nat.{ℕ, _≤_}
 use lib.ListN.{length, take}
 use Rattle.basis.specs.Basis.{over}
 use Rattle.text_writing.specs.Base64url.{textLength}
-use Rattle.chain.specs.Chain.{tagOf, nextLink}
-use Rattle.scope.specs.Scopes.{Scope, encodeScope, GoodScope}
-use Rattle.caveat.specs.Caveats.{Caveat, encodeCaveat, GoodCaveat}
+use Rattle.hash_chain.specs.Chain.{tagOf, nextLink}
+use Rattle.token_scope.specs.Scopes.{Scope, encodeScope, GoodScope}
+use Rattle.token_caveat.specs.Caveats.{Caveat, encodeCaveat, GoodCaveat}
 use Rattle.token.specs.Tokens.{Token, encodeToken}
-use Rattle.tables.specs.Tables.{Row, hasRow, keyIn}
-use Rattle.requests.specs.Requests.{Request}
+use Rattle.records_table.specs.Tables.{Row, hasRow, keyIn}
+use Rattle.records_request.specs.Requests.{Request}
 use Rattle.rules.specs.Holding.{caveatHolds}
-use Rattle.judging.specs.Verifying.{verifyOf}
-use Rattle.handing.specs.Handing.{Handing}
-use Rattle.narrowing.specs.Narrowing.{narrowOf}
-use Rattle.handing.specs.declared.Outcome.{Outcome}
+use Rattle.verify.specs.Verifying.{verifyOf}
+use Rattle.outcome.specs.Handing.{Handing}
+use Rattle.narrow.specs.Narrowing.{narrowOf}
+use Rattle.outcome.specs.declared.Outcome.{Outcome}
 use Rattle.bhinorpa.specs.Allowed.{TableOf, RequestOf, Canonical, Allowed, chainTag, keyFor}
 
 -- the scope, and the caveat, that bytes are

@@ -13,18 +13,18 @@ use Rattle.answers.specs.declared.Answer.the-variants.{Allow, TableBad, CtxBad,
 use Rattle.answers.specs.declared.Answer.the-variants.{CaveatMethod, CaveatPath, CaveatBytes, CaveatExp, CaveatNbf, CaveatAud, CaveatIp, CaveatRate, CaveatTenant, CaveatAmnesia, CaveatPolicyDigest, CaveatCustomUnknown}
 use Rattle.answers.specs.declared.Answer.the-variants.{CavCbor, CavBounds, CavUnknown, CavFull, SizeFull, OutShort}
 use Rattle.text_writing.specs.Base64url.{base64url}
-use Rattle.scope.specs.Scopes.{Scope, encodeScope, GoodScope}
-use Rattle.scope.specs.Reading.{scopeOf}
-use Rattle.scope.specs.declared.ScopeParts.the-variants.{Bad as NoScope}
-use Rattle.caveat.specs.Caveats.{Caveat, encodeCaveat, GoodCaveat}
-use Rattle.caveat.specs.Reading.{caveatOf}
-use Rattle.caveat_values.specs.declared.CaveatParts.the-variants.{Bad as NoCaveat}
+use Rattle.token_scope.specs.Scopes.{Scope, encodeScope, GoodScope}
+use Rattle.token_scope.specs.Reading.{scopeOf}
+use Rattle.token_scope.specs.declared.ScopeParts.the-variants.{Bad as NoScope}
+use Rattle.token_caveat.specs.Caveats.{Caveat, encodeCaveat, GoodCaveat}
+use Rattle.token_caveat.specs.Reading.{caveatOf}
+use Rattle.token_caveat_values.specs.declared.CaveatParts.the-variants.{Bad as NoCaveat}
 use Rattle.token.specs.Tokens.{Token, encodeToken}
 use Rattle.token.specs.Reading.{tokenOf}
 use Rattle.token.specs.declared.TokenParts.the-variants.{Bad as NoToken}
-use Rattle.tables.specs.Tables.{Row, hasRow}
-use Rattle.requests.specs.Requests.{Request}
-use Rattle.handing.specs.declared.Outcome.{Outcome}
+use Rattle.records_table.specs.Tables.{Row, hasRow}
+use Rattle.records_request.specs.Requests.{Request}
+use Rattle.outcome.specs.declared.Outcome.{Outcome}
 use Rattle.bhinorpa.specs.Allowed.{TableOf, RequestOf, tokenText, Canonical, chainTag, keyFor, firstFailing, checksOf}
 use Rattle.bhinorpa.specs.Handouts.{ScopeOf, CaveatOf, Grant, Parent, freshToken, childToken}
 

@@ -1,18 +1,18 @@
 // The entry points that the firmware calls. Each takes any bytes and asks nothing of them; what they promise
 // is proved to be what the demands say (specs/Demands.antt).
-use handing::Outcome;
+use outcome::Outcome;
 ghost use mathlib.Core.Path.{_≡_};
-ghost use Rattle.judging.specs.Verifying.{verifyOf};
-ghost use Rattle.handing.specs.Handing.{Handing};
-ghost use Rattle.issuing.specs.Issuing.{issueOf};
-ghost use Rattle.narrowing.specs.Narrowing.{narrowOf};
+ghost use Rattle.verify.specs.Verifying.{verifyOf};
+ghost use Rattle.outcome.specs.Handing.{Handing};
+ghost use Rattle.issue.specs.Issuing.{issueOf};
+ghost use Rattle.narrow.specs.Narrowing.{narrowOf};
 
 // Whether a token is allowed: 0, or the number of the first check that fails.
 #[no_mangle]
 pub extern "C" fn bhinorpa_verify(table: &[u8], request: &[u8], token: &[u8]) -> u32
     ensures { λ r. ⌜ r ≡ verifyOf (now (table .entry)) (now (request .entry)) (now (token .entry)) ⌝ }
 {
-    judging::verify(table, request, token)
+    verify::verify(table, request, token)
 }
 
 // Writes the text of a fresh token, without caveats, into the room.
@@ -26,7 +26,7 @@ pub extern "C" fn bhinorpa_issue(
 ) -> Outcome
     ensures { λ r. ⌜ Handing (issueOf (now (table .entry)) (now (tid .entry)) (now (kid .entry)) (now (scope .entry))) (now (room .entry)) r (now (room .exit)) ⌝ }
 {
-    issuing::issue(table, tid, kid, scope, room)
+    issue::issue(table, tid, kid, scope, room)
 }
 
 // Writes the text of a token with one caveat more into the room.
@@ -39,5 +39,5 @@ pub extern "C" fn bhinorpa_narrow(
 ) -> Outcome
     ensures { λ r. ⌜ Handing (narrowOf (now (table .entry)) (now (token .entry)) (now (caveat .entry))) (now (room .entry)) r (now (room .exit)) ⌝ }
 {
-    narrowing::narrow(table, token, caveat, room)
+    narrow::narrow(table, token, caveat, room)
 }

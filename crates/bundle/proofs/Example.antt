@@ -4,9 +4,9 @@ use mathlib.Core.List.{List, [], _∷_, _++_}
 use Prim.Native.Nat.{ℕ}
 use Rattle.basis.specs.Basis.{ascii}
 use Rattle.records.specs.Records.{littleOf, runAt, numberAt, recordThen, recordAt, kindThen as lengthThen}
-use Rattle.tables.specs.Reading.{okFrom, tableOk}
-use Rattle.requests.specs.Reading.{fixedAt, requestOf}
-use Rattle.judging.specs.Verifying.{requestThen, verifyOf}
+use Rattle.records_table.specs.Reading.{okFrom, tableOk}
+use Rattle.records_request.specs.Reading.{fixedAt, requestOf}
+use Rattle.verify.specs.Verifying.{requestThen, verifyOf}
 use Rattle.answers.specs.Answers.{answerOf}
 use Rattle.bundle.specs.Lines.{wordsOf, line, kindThen, linesFrom, linesOf}
 

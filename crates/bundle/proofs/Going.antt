@@ -9,9 +9,9 @@ use Rattle.basis.specs.Basis.{between, IsBytes}
 use Rattle.records.specs.Records.{recordAt}
 use Rattle.records.specs.declared.Record.the-variants.{Of, Bad}
 use Rattle.records.proofs.Fields.{IsRecord, record-read}
-use Rattle.writing.specs.Placing.{Placed}
-use Rattle.writing.proofs.PlacingLaws.{placed-length, placed-fits, placed-then}
-use Rattle.judging.specs.Verifying.{verifyOf}
+use Rattle.cbor_writing.specs.Placing.{Placed}
+use Rattle.cbor_writing.proofs.PlacingLaws.{placed-length, placed-fits, placed-then}
+use Rattle.verify.specs.Verifying.{verifyOf}
 use Rattle.bundle.specs.Lines.{line, badLine, kindThen, linesFrom}
 use Rattle.bundle.proofs.Putting.{line-short}
 

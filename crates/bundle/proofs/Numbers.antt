@@ -14,8 +14,8 @@ use Rattle.answers.specs.declared.Listed.{Listed}
 use Rattle.answers.specs.declared.Listed.the-variants.{Of, Free}
 use Rattle.answers.proofs.Distinct.{listed-number}
 use Rattle.answers.proofs.Named.{name-long}
-use Rattle.judging.specs.Verifying.{verifyOf}
-use Rattle.judging.proofs.Numbers.{verify-low}
+use Rattle.verify.specs.Verifying.{verifyOf}
+use Rattle.verify.proofs.Numbers.{verify-low}
 use Rattle.bundle.specs.Lines.{nameIn, wordsOf}
 
 -- an answer has this number, and the words for the number are that answer's

@@ -14,8 +14,8 @@ use Rattle.answers.specs.declared.Answer.{Answer}
 use Rattle.answers.specs.declared.Listed.{Listed}
 use Rattle.answers.specs.declared.Listed.the-variants.{Of, Free}
 use Rattle.answers.proofs.Named.{told-row}
-use Rattle.writing.specs.Placing.{Placed}
-use Rattle.writing.proofs.Writers.{put-placed}
+use Rattle.cbor_writing.specs.Placing.{Placed}
+use Rattle.cbor_writing.proofs.Writers.{put-placed}
 use Rattle.bundle.specs.Lines.{nameIn, wordsOf, line}
 
 name-short : (a : Answer) → length (nameOf a) ≤ 21

@@ -9,7 +9,7 @@ use Rattle.basis.proofs.Picks.{either}
 use Rattle.records.specs.Records.{afterRecord, recordAt}
 use Rattle.records.specs.declared.Record.{Record}
 use Rattle.records.specs.declared.Record.the-variants.{Of, Bad}
-use Rattle.judging.specs.Verifying.{verifyOf}
+use Rattle.verify.specs.Verifying.{verifyOf}
 use Rattle.bundle.specs.Lines.{line, badLine, kindThen, linesFrom, linesOf}
 use Rattle.bundle.proofs.Putting.{line-short}
 

@@ -5,8 +5,8 @@ use Prim.Native.Nat.{ℕ, _≤_, _<_}
 use native.Mathlib.Nat.{zero-add}
 use borrow.Author.Tests.{le-leb, lt-leb, lt-ltb, le-ltb}
 use lib.ListN.{length}
-use Rattle.writing.specs.Placing.{Placed}
-use Rattle.writing.proofs.PlacingLaws.{placed-front}
+use Rattle.cbor_writing.specs.Placing.{Placed}
+use Rattle.cbor_writing.proofs.PlacingLaws.{placed-front}
 use Rattle.bundle.specs.Lines.{badLine, linesFrom, linesOf, enough, Judged}
 
 module _ (input entry : List ℕ) where

@@ -10,7 +10,7 @@ use Rattle.answers.specs.Answers.{nameOf, answerOf}
 use Rattle.answers.specs.declared.Listed.{Listed}
 use Rattle.answers.specs.declared.Listed.the-variants.{Of, Free}
 use Rattle.records.specs.Records.{afterRecord, recordAt}
-use Rattle.judging.specs.Verifying.{verifyOf}
+use Rattle.verify.specs.Verifying.{verifyOf}
 
 -- the name on a line. A number that no answer has would print as "?", which is no answer's name (`unnamed`); it does not arise:
 -- `verify-named` shows that verify's number is always an answer's, and that the line names that answer

@@ -7,7 +7,7 @@ ghost use mathlib.Core.List.{[]};
 ghost use Prim.Native.Nat.{_+_, _≤_};
 ghost use lib.ListN.{length};
 ghost use Rattle.answers.specs.Answers.{answerOf};
-ghost use Rattle.writing.specs.Placing.{Placed};
+ghost use Rattle.cbor_writing.specs.Placing.{Placed};
 ghost use Rattle.bundle.specs.Lines.{nameIn, wordsOf, line, linesFrom, Judged};
 
 // The answer's name; for a number that no answer has "?", which verify never gives.
@@ -16,7 +16,7 @@ fn put_name(room: &mut [u8], at: usize, n: u32) -> usize
     ensures { λ r. ⌜ Placed (nameIn (answerOf n)) (now (room .entry)) at r (now (room .exit)) ⌝ }
 {
     match answers::answer_of(n) {
-        Listed::Free => writing::put_at(room, at, b"?"),
+        Listed::Free => cbor_writing::put_at(room, at, b"?"),
         Listed::Of(answer) => {
             let k = answers::name(answer, &mut room[at..]);
             at + k
@@ -30,9 +30,9 @@ fn put_words(room: &mut [u8], at: usize, n: u32) -> usize
     ensures { λ r. ⌜ Placed (wordsOf n) (now (room .entry)) at r (now (room .exit)) ⌝ }
 {
     if n == 0 {
-        return writing::put_at(room, at, b"allow");
+        return cbor_writing::put_at(room, at, b"allow");
     }
-    let p = writing::put_at(room, at, b"deny ");
+    let p = cbor_writing::put_at(room, at, b"deny ");
     put_name(room, p, n)
 }
 
@@ -41,7 +41,7 @@ fn put_line(room: &mut [u8], at: usize, n: u32) -> usize
     ensures { λ r. ⌜ Placed (line n) (now (room .entry)) at r (now (room .exit)) ⌝ }
 {
     let p = put_words(room, at, n);
-    writing::put_at(room, p, b"\n")
+    cbor_writing::put_at(room, p, b"\n")
 }
 
 // The lines of an input of at most 65,536 bytes.
@@ -57,7 +57,7 @@ fn walk(input: &[u8], room: &mut [u8]) -> usize
     let mut q_end: usize = 0;
     while p != input.len() {
         match records::record_at(input, p) {
-            Record::Bad => return writing::put_at(room, n, b"bundle.bad\n"),
+            Record::Bad => return cbor_writing::put_at(room, n, b"bundle.bad\n"),
             Record::Of { kind, from, to } => {
                 if kind == 16 {
                     t = from;
@@ -68,10 +68,10 @@ fn walk(input: &[u8], room: &mut [u8]) -> usize
                 } else if kind == 48 {
                     let table = basis::part(input, t, t_end);
                     let request = basis::part(input, q, q_end);
-                    let answer = judging::verify(table, request, basis::part(input, from, to));
+                    let answer = verify::verify(table, request, basis::part(input, from, to));
                     n = put_line(room, n, answer);
                 } else {
-                    return writing::put_at(room, n, b"bundle.bad\n");
+                    return cbor_writing::put_at(room, n, b"bundle.bad\n");
                 }
                 p = to;
             }
@@ -89,7 +89,7 @@ pub fn judge_bundle(input: &[u8], room: &mut [u8]) -> usize
         return 0;
     }
     if 65536 < input.len() {
-        return writing::put_at(room, 0, b"bundle.bad\n");
+        return cbor_writing::put_at(room, 0, b"bundle.bad\n");
     }
     walk(input, room)
 }

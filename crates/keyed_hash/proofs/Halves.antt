@@ -11,10 +11,10 @@ use lib.Dec.{leb}
 use lib.Pow.{pow-mono}
 use lib.ListN.{length, take, drop, length-append, length-take, length-drop}
 use lib.Seq.{take-all}
-use Rattle.chunking.specs.Chunks.{chunkOf, parentOf}
+use Rattle.hash_chunks.specs.Chunks.{chunkOf, parentOf}
 use Rattle.keyed_hash.specs.Tree.{fullOf, treeOf}
 use Rattle.keyed_hash.specs.Fits.{Fit}
-use Rattle.chunking.proofs.Blocks.{cut}
+use Rattle.hash_chunks.proofs.Blocks.{cut}
 
 module _ (key s : List ℕ) (counter root : ℕ) where
   -- a taller tree than is needed is the same tree

@@ -12,7 +12,7 @@ use Rattle.answers.specs.Answers.{numberOf}
 use Rattle.answers.specs.declared.Answer.the-variants.{Allow}
 use Rattle.keyed_hash.specs.declared.Hashed.{Hashed}
 use Rattle.keyed_hash.specs.declared.Inside.the-variants.{Here}
-use Rattle.chunking.specs.Chunks.{rootFlag, wordsOf}
+use Rattle.hash_chunks.specs.Chunks.{rootFlag, wordsOf}
 use Rattle.keyed_hash.specs.Tree.{bytesOf, treeOf}
 use Rattle.keyed_hash.specs.KeyedHash.{hash-is, refusedHash, hashedOf}
 use Rattle.keyed_hash.specs.Fits.{Fit}

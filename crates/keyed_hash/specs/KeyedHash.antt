@@ -14,7 +14,7 @@ use Rattle.answers.specs.declared.Answer.the-variants.{Allow, HashBad}
 use Rattle.keyed_hash.specs.declared.Hashed.{Hashed}
 use Rattle.keyed_hash.specs.declared.Inside.{Inside}
 use Rattle.keyed_hash.specs.declared.Inside.the-variants.{Here}
-use Rattle.chunking.specs.Chunks.{rootFlag, wordsOf}
+use Rattle.hash_chunks.specs.Chunks.{rootFlag, wordsOf}
 use Rattle.keyed_hash.specs.Tree.{bytesOf, treeOf}
 
 -- BLAKE3 in keyed mode, 32 bytes out, of a message of any length: n bytes are never more than 2^n chunks

@@ -1,11 +1,11 @@
 -- BLAKE3's keyed mode on lists of bytes, as the BLAKE3 paper has it in sections 2.1 ("Tree structure"), 2.3 ("Modes")
--- and 2.6 (the root); document 01, "Chain". Chunks and parents are in Chunks of `chunking`.
+-- and 2.6 (the root); document 01, "Chain". Chunks and parents are in Chunks of `hash_chunks`.
 use mathlib.Core.List.{List}
 use Prim.Native.Nat.{ℕ, zero, suc, _+_, _*_, _/_, _%_, _^_}
 use lib.ListN.{length, take, drop, getD}
 use lib.Dec.{leb}
 use Rattle.basis.specs.Basis.{pick, tab}
-use Rattle.chunking.specs.Chunks.{chunkOf, parentOf}
+use Rattle.hash_chunks.specs.Chunks.{chunkOf, parentOf}
 
 -- the 32 bytes of eight words, each with its low byte first
 abbrev pub byteOf : ℕ → ℕ → ℕ

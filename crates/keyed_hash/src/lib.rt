@@ -43,7 +43,7 @@ fn tree(key: [u32; 8], head: &[u8], body: &[u8], counter: u64, h: u32, root: u32
 {
     let n = head.len() + body.len();
     if n <= 1024 {
-        return chunking::chunk(key, head, body, counter, root);
+        return hash_chunks::chunk(key, head, body, counter, root);
     }
     let k = h - 1;
     let c = chunks(k);
@@ -55,7 +55,7 @@ fn tree(key: [u32; 8], head: &[u8], body: &[u8], counter: u64, h: u32, root: u32
     let b = l - a;
     let left = tree(key, &head[..a], &body[..b], counter, k, 0);
     let right = tree(key, &head[a..], &body[b..], counter + c as u64, k, 0);
-    chunking::parent(key, left, right, root)
+    hash_chunks::parent(key, left, right, root)
 }
 
 // Four stores a turn: the compiler makes one of them.
@@ -97,7 +97,7 @@ pub fn keyed_hash_joined(key: &[u8], head: &[u8], body: &[u8]) -> Hashed
     if 8192 - head.len() < body.len() {
         return refused();
     }
-    let top = tree(chunking::key_words(key), head, body, 0, 3, ROOT);
+    let top = tree(hash_chunks::key_words(key), head, body, 0, 3, ROOT);
     Hashed {
         answer: answers::number(Answer::Allow),
         bytes: spread(top),

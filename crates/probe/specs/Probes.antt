@@ -7,22 +7,22 @@ use lib.ListN.{length}
 use lib.Dec.{leb, eqb}
 use Rattle.basis.specs.Basis.{pick, over}
 use Rattle.text_writing.specs.Base64url.{base64url}
-use Rattle.base64url.specs.Reading.{judgedOf, bytesOf, decodedOf, leftOf}
-use Rattle.base64url.specs.declared.Decoded.{Decoded}
-use Rattle.base64url.specs.declared.Decoded.the-variants.{Bytes, Bad as NoText, Short}
+use Rattle.text_reading.specs.Reading.{judgedOf, bytesOf, decodedOf, leftOf}
+use Rattle.text_reading.specs.declared.Decoded.{Decoded}
+use Rattle.text_reading.specs.declared.Decoded.the-variants.{Bytes, Bad as NoText, Short}
 use Rattle.text_writing.specs.declared.Encoded.{Encoded}
 use Rattle.text_writing.specs.declared.Encoded.the-variants.{Text, NoRoom}
-use Rattle.heads.specs.declared.Head.{Head}
-use Rattle.heads.specs.declared.Head.the-variants.{Got, Bad as NoHead}
-use Rattle.cbor.specs.declared.Span.{Span}
-use Rattle.cbor.specs.declared.Span.the-variants.{Of, Bad as NoSpan}
-use Rattle.cbor.specs.declared.Class.{Class}
-use Rattle.cbor.specs.declared.Class.the-variants.{Name, Printable, Path, Upper, Hex}
-use Rattle.values.specs.declared.Item.{Item}
-use Rattle.values.specs.declared.Item.the-variants.{End, Bad as NoItem}
-use Rattle.cidr.specs.Prefixes.{addressOf}
-use Rattle.cidr.specs.declared.Cidr.{Cidr}
-use Rattle.cidr.specs.declared.Cidr.the-variants.{Of as Prefix, Bad as NoPrefix}
+use Rattle.cbor_heads.specs.declared.Head.{Head}
+use Rattle.cbor_heads.specs.declared.Head.the-variants.{Got, Bad as NoHead}
+use Rattle.cbor_strings.specs.declared.Span.{Span}
+use Rattle.cbor_strings.specs.declared.Span.the-variants.{Of, Bad as NoSpan}
+use Rattle.cbor_strings.specs.declared.Class.{Class}
+use Rattle.cbor_strings.specs.declared.Class.the-variants.{Name, Printable, Path, Upper, Hex}
+use Rattle.cbor_values.specs.declared.Item.{Item}
+use Rattle.cbor_values.specs.declared.Item.the-variants.{End, Bad as NoItem}
+use Rattle.token_cidr.specs.Prefixes.{addressOf}
+use Rattle.token_cidr.specs.declared.Cidr.{Cidr}
+use Rattle.token_cidr.specs.declared.Cidr.the-variants.{Of as Prefix, Bad as NoPrefix}
 use Rattle.probe.specs.declared.Probed.{Probed}
 
 -- a number of the answer list, and what it carries

@@ -1,20 +1,20 @@
 // What the host tests call beyond the product's entry points. Nothing of the product stands on it.
-use base64url::Decoded;
-use cbor::Class;
-use cbor::Span;
-use cidr::Cidr;
-use heads::Head;
+use cbor_heads::Head;
+use cbor_strings::Class;
+use cbor_strings::Span;
+use cbor_values::Item;
 use keyed_hash::Hashed;
+use text_reading::Decoded;
 use text_writing::Encoded;
-use values::Item;
+use token_cidr::Cidr;
 ghost use mathlib.Core.Path.{_≡_};
 ghost use mathlib.Core.List.{_++_};
 ghost use Rattle.keyed_hash.specs.KeyedHash.{hashedOf};
-ghost use Rattle.heads.specs.Heads.{readHead};
-ghost use Rattle.cbor.specs.Strings.{readRun, readString};
-ghost use Rattle.values.specs.Reading.{valueOf};
-ghost use Rattle.cidr.specs.Bits.{agreeOf};
-ghost use Rattle.cidr.specs.Reading.{cidrOf};
+ghost use Rattle.cbor_heads.specs.Heads.{readHead};
+ghost use Rattle.cbor_strings.specs.Strings.{readRun, readString};
+ghost use Rattle.cbor_values.specs.Reading.{valueOf};
+ghost use Rattle.token_cidr.specs.Bits.{agreeOf};
+ghost use Rattle.token_cidr.specs.Reading.{cidrOf};
 ghost use Rattle.probe.specs.Probes.{decodedProbe, encodedProbe, headProbe, spanProbe, itemProbe, classAt};
 ghost use Rattle.probe.specs.Probes.{cidrProbe, boolProbe};
 ghost use Rattle.probe.specs.Probes.{DecodeProbed, EncodeProbed};
@@ -190,7 +190,7 @@ fn class_at(n: u32) -> Class
 pub extern "C" fn probe_base64url_decode(text: &[u8], room: &mut [u8]) -> Probed
     ensures { λ r. ⌜ DecodeProbed (now (text .entry)) (now (room .entry)) r (now (room .exit)) ⌝ }
 {
-    decoded_probe(base64url::decode(text, room))
+    decoded_probe(text_reading::decode(text, room))
 }
 
 #[no_mangle]
@@ -204,40 +204,40 @@ pub extern "C" fn probe_base64url_encode(bytes: &[u8], room: &mut [u8]) -> Probe
 pub extern "C" fn probe_read_head(s: &[u8], at: usize) -> Probed
     ensures { λ r. ⌜ r ≡ headProbe (readHead (now (s .entry)) at) ⌝ }
 {
-    head_probe(heads::read_head(s, at))
+    head_probe(cbor_heads::read_head(s, at))
 }
 
 #[no_mangle]
 pub extern "C" fn probe_read_run(s: &[u8], at: usize, major: u8, low: u64, high: u64) -> Probed
     ensures { λ r. ⌜ r ≡ spanProbe (readRun (now (s .entry)) at major low high) ⌝ }
 {
-    span_probe(cbor::read_run(s, at, major, low, high))
+    span_probe(cbor_strings::read_run(s, at, major, low, high))
 }
 
 #[no_mangle]
 pub extern "C" fn probe_read_string(s: &[u8], at: usize, class: u32, low: u64, high: u64) -> Probed
     ensures { λ r. ⌜ r ≡ spanProbe (readString (now (s .entry)) at (classAt class) low high) ⌝ }
 {
-    span_probe(cbor::read_string(s, at, class_at(class), low, high))
+    span_probe(cbor_strings::read_string(s, at, class_at(class), low, high))
 }
 
 #[no_mangle]
 pub extern "C" fn probe_read_value(s: &[u8], at: usize, depth: u8) -> Probed
     ensures { λ r. ⌜ r ≡ itemProbe (valueOf depth (now (s .entry)) at) ⌝ }
 {
-    item_probe(values::read_value(s, at, depth))
+    item_probe(cbor_values::read_value(s, at, depth))
 }
 
 #[no_mangle]
 pub extern "C" fn probe_read_cidr(s: &[u8]) -> Probed
     ensures { λ r. ⌜ r ≡ cidrProbe (cidrOf (now (s .entry))) ⌝ }
 {
-    cidr_probe(cidr::read_cidr(s))
+    cidr_probe(token_cidr::read_cidr(s))
 }
 
 #[no_mangle]
 pub extern "C" fn probe_first_bits_agree(x: &[u8], y: &[u8], n: u32) -> Probed
     ensures { λ r. ⌜ r ≡ boolProbe (agreeOf (now (x .entry)) (now (y .entry)) n) ⌝ }
 {
-    bool_probe(cidr::first_bits_agree(x, y, n))
+    bool_probe(token_cidr::first_bits_agree(x, y, n))
 }

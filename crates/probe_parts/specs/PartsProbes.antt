@@ -3,16 +3,16 @@
 use mathlib.Core.Bool.{Bool, true, false}
 use mathlib.Core.List.{List, [], _∷_}
 use Prim.Native.Nat.{ℕ}
-use Rattle.cidr.specs.Prefixes.{addressOf}
-use Rattle.scope.specs.declared.Prefix.the-variants.{Absent as NoPrefix, Of as PrefixAt}
-use Rattle.scope.specs.declared.Limit.{Limit}
-use Rattle.scope.specs.declared.Limit.the-variants.{Absent as NoLimit, Of as AtMost}
-use Rattle.scope.specs.declared.ScopeParts.{ScopeParts}
-use Rattle.scope.specs.declared.ScopeParts.the-variants.{Of as ScopeAt, Bad as NoScope}
-use Rattle.caveat_values.specs.declared.Caveat.{Caveat}
-use Rattle.caveat_values.specs.declared.Caveat.the-variants.{Exp, Nbf, Aud, Method, PathPrefix, IpCidr, BytesLe, Rate, Tenant, Amnesia, GovPolicyDigest, Custom}
-use Rattle.caveat_values.specs.declared.CaveatParts.{CaveatParts}
-use Rattle.caveat_values.specs.declared.CaveatParts.the-variants.{Of as CaveatAt, Bad as NoCaveat}
+use Rattle.token_cidr.specs.Prefixes.{addressOf}
+use Rattle.token_scope.specs.declared.Prefix.the-variants.{Absent as NoPrefix, Of as PrefixAt}
+use Rattle.token_scope.specs.declared.Limit.{Limit}
+use Rattle.token_scope.specs.declared.Limit.the-variants.{Absent as NoLimit, Of as AtMost}
+use Rattle.token_scope.specs.declared.ScopeParts.{ScopeParts}
+use Rattle.token_scope.specs.declared.ScopeParts.the-variants.{Of as ScopeAt, Bad as NoScope}
+use Rattle.token_caveat_values.specs.declared.Caveat.{Caveat}
+use Rattle.token_caveat_values.specs.declared.Caveat.the-variants.{Exp, Nbf, Aud, Method, PathPrefix, IpCidr, BytesLe, Rate, Tenant, Amnesia, GovPolicyDigest, Custom}
+use Rattle.token_caveat_values.specs.declared.CaveatParts.{CaveatParts}
+use Rattle.token_caveat_values.specs.declared.CaveatParts.the-variants.{Of as CaveatAt, Bad as NoCaveat}
 use Rattle.token.specs.declared.TokenParts.{TokenParts}
 use Rattle.token.specs.declared.TokenParts.the-variants.{Of as TokenAt, Bad as NoToken}
 use Rattle.probe_parts.specs.declared.Parts.{Parts}

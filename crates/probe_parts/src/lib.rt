@@ -1,17 +1,17 @@
 // Scopes, caveats and tokens as the host tests read them. Nothing of the product stands on it.
-use caveat_values::Caveat;
-use caveat_values::CaveatParts;
-use scope::Limit;
-use scope::Prefix;
-use scope::ScopeParts;
 use token::TokenParts;
+use token_caveat_values::Caveat;
+use token_caveat_values::CaveatParts;
+use token_scope::Limit;
+use token_scope::Prefix;
+use token_scope::ScopeParts;
 ghost use mathlib.Core.Path.{_≡_};
 ghost use mathlib.Core.List.{_++_};
 ghost use Rattle.basis.specs.Basis.{Written};
 ghost use Rattle.token.specs.Tokens.{tokenBytes};
-ghost use Rattle.cidr.specs.Prefixes.{addressOf};
-ghost use Rattle.scope.specs.Reading.{scopeOf};
-ghost use Rattle.caveat.specs.Reading.{caveatOf};
+ghost use Rattle.token_cidr.specs.Prefixes.{addressOf};
+ghost use Rattle.token_scope.specs.Reading.{scopeOf};
+ghost use Rattle.token_caveat.specs.Reading.{caveatOf};
 ghost use Rattle.token.specs.Reading.{tokenOf};
 ghost use Rattle.probe_parts.specs.PartsProbes.{refused, limitProbe, scopeProbe, bitOf, demandProbe, caveatProbe, tokenProbe};
 
@@ -244,14 +244,14 @@ fn token_probe(p: TokenParts) -> Parts
 pub extern "C" fn probe_read_scope(s: &[u8], at: usize) -> Parts
     ensures { λ r. ⌜ r ≡ scopeProbe (scopeOf (now (s .entry)) at) ⌝ }
 {
-    scope_probe(scope::read_scope(s, at))
+    scope_probe(token_scope::read_scope(s, at))
 }
 
 #[no_mangle]
 pub extern "C" fn probe_read_caveat(s: &[u8]) -> Parts
     ensures { λ r. ⌜ r ≡ caveatProbe (caveatOf (now (s .entry))) ⌝ }
 {
-    caveat_probe(caveat::read_caveat(s))
+    caveat_probe(token_caveat::read_caveat(s))
 }
 
 #[no_mangle]

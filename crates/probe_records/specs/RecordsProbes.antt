@@ -3,16 +3,16 @@
 use mathlib.Core.Bool.{Bool, true, false}
 use mathlib.Core.List.{List, [], _∷_}
 use Prim.Native.Nat.{ℕ}
-use Rattle.requests.specs.declared.Peer.{Peer}
-use Rattle.requests.specs.declared.Peer.the-variants.{Absent as NoPeer, At as PeerAt}
-use Rattle.requests.specs.declared.Digest.{Digest}
-use Rattle.requests.specs.declared.Digest.the-variants.{Absent as NoDigest, At as DigestAt}
-use Rattle.requests.specs.declared.Rate.{Rate}
-use Rattle.requests.specs.declared.Rate.the-variants.{Absent as NoRate, Of as RateOf}
-use Rattle.requests.specs.declared.Audience.{Audience}
-use Rattle.requests.specs.declared.Audience.the-variants.{Absent as NoAudience, Of as AudienceAt}
-use Rattle.requests.specs.declared.RequestParts.{RequestParts}
-use Rattle.requests.specs.declared.RequestParts.the-variants.{Of, Bad}
+use Rattle.records_request.specs.declared.Peer.{Peer}
+use Rattle.records_request.specs.declared.Peer.the-variants.{Absent as NoPeer, At as PeerAt}
+use Rattle.records_request.specs.declared.Digest.{Digest}
+use Rattle.records_request.specs.declared.Digest.the-variants.{Absent as NoDigest, At as DigestAt}
+use Rattle.records_request.specs.declared.Rate.{Rate}
+use Rattle.records_request.specs.declared.Rate.the-variants.{Absent as NoRate, Of as RateOf}
+use Rattle.records_request.specs.declared.Audience.{Audience}
+use Rattle.records_request.specs.declared.Audience.the-variants.{Absent as NoAudience, Of as AudienceAt}
+use Rattle.records_request.specs.declared.RequestParts.{RequestParts}
+use Rattle.records_request.specs.declared.RequestParts.the-variants.{Of, Bad}
 use Rattle.probe_records.specs.declared.Listed.{Listed}
 use Rattle.probe_records.specs.declared.Told.{Told}
 

@@ -1,13 +1,13 @@
 // Key tables and requests as the host tests read them. Nothing of the product stands on it.
-use requests::Audience;
-use requests::Digest;
-use requests::Peer;
-use requests::Rate;
-use requests::RequestParts;
+use records_request::Audience;
+use records_request::Digest;
+use records_request::Peer;
+use records_request::Rate;
+use records_request::RequestParts;
 ghost use mathlib.Core.Path.{_≡_};
 ghost use Rattle.basis.specs.Basis.{Written};
-ghost use Rattle.tables.specs.Reading.{tableOk, lookupOf};
-ghost use Rattle.requests.specs.Reading.{requestOf};
+ghost use Rattle.records_table.specs.Reading.{tableOk, lookupOf};
+ghost use Rattle.records_request.specs.Reading.{requestOf};
 ghost use Rattle.probe_records.specs.RecordsProbes.{bitOf, peerProbe, digestProbe, rateProbe, audienceProbe, requestProbe};
 
 // An answer as numbers: a host cannot take an enum apart by Rattle's layout.
@@ -160,7 +160,7 @@ fn request_probe(p: RequestParts) -> Listed
 pub extern "C" fn probe_table_ok(table: &[u8]) -> u32
     ensures { λ r. ⌜ r ≡ bitOf (tableOk (now (table .entry))) ⌝ }
 {
-    bit_of(tables::table_ok(table))
+    bit_of(records_table::table_ok(table))
 }
 
 // The key is copied into the room: a host cannot take a part by Rattle's layout.
@@ -168,7 +168,7 @@ pub extern "C" fn probe_table_ok(table: &[u8]) -> u32
 pub extern "C" fn probe_lookup(table: &[u8], tid: &[u8], kid: &[u8], room: &mut [u8]) -> usize
     ensures { λ r. ⌜ Written (lookupOf (now (table .entry)) (now (tid .entry)) (now (kid .entry))) (now (room .entry)) r (now (room .exit)) ⌝ }
 {
-    let key = tables::lookup(table, tid, kid);
+    let key = records_table::lookup(table, tid, kid);
     basis::put(key, room)
 }
 
@@ -176,5 +176,5 @@ pub extern "C" fn probe_lookup(table: &[u8], tid: &[u8], kid: &[u8], room: &mut 
 pub extern "C" fn probe_read_request(s: &[u8]) -> Listed
     ensures { λ r. ⌜ r ≡ requestProbe (requestOf (now (s .entry))) ⌝ }
 {
-    request_probe(requests::read_request(s))
+    request_probe(records_request::read_request(s))
 }

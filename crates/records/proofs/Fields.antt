@@ -9,10 +9,10 @@ use lib.Dec.{ltb}
 use lib.ListN.{length, drop, length-append}
 use Rattle.basis.specs.Basis.{pick, between, IsBytes}
 use Rattle.basis.proofs.Parts.{past, lies, on}
-use Rattle.cbor.specs.Strings.{contentOf}
-use Rattle.cbor.specs.declared.Class.{Class}
-use Rattle.keys.specs.Maps.{GoodText}
-use Rattle.keys.proofs.StepLaws.{must-take, must-pass}
+use Rattle.cbor_strings.specs.Strings.{contentOf}
+use Rattle.cbor_strings.specs.declared.Class.{Class}
+use Rattle.cbor_keys.specs.Maps.{GoodText}
+use Rattle.cbor_keys.proofs.StepLaws.{must-take, must-pass}
 use Rattle.records.specs.Records.{little, counted, recordBytes, runAt, afterRun, afterNumber, afterRecord, numberAt, contentThen, lengthThen, textAt, bodyThen, kindThen, recordThen, recordAt}
 use Rattle.records.specs.declared.Run.{Run}
 use Rattle.records.specs.declared.Run.the-variants.{Of as Found, Bad as NoRun}

@@ -8,7 +8,7 @@ use lib.Arith.{digits-lt, digits-div, digits-mod}
 use lib.ListN.{length, drop, getD}
 use lib.Seq.{drop-cons, drop-length}
 use Rattle.basis.specs.Basis.{IsBytes}
-use Rattle.heads.proofs.Numbers.{more, most}
+use Rattle.cbor_heads.proofs.Numbers.{more, most}
 use Rattle.records.specs.Records.{little, littleOf}
 
 -- the number of what stands from i on, and that it leaves room for the rest

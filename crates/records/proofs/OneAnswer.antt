@@ -3,7 +3,7 @@ use mathlib.Core.Path.{_≡_}
 use mathlib.Core.List.{List}
 use Prim.Native.Nat.{ℕ}
 use Rattle.basis.proofs.OneAnswer.{told}
-use Rattle.cbor.specs.declared.Class.{Class}
+use Rattle.cbor_strings.specs.declared.Class.{Class}
 use Rattle.records.specs.Records.{runAt, numberAt, textAt, recordAt}
 use Rattle.records.specs.declared.Run.{Run}
 use Rattle.records.specs.declared.Number.{Number}

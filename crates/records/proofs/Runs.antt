@@ -14,8 +14,8 @@ use Rattle.records.specs.Records.{little, littleOf, runAt, afterRun, num
 use Rattle.records.specs.declared.Run.{Run}
 use Rattle.records.specs.declared.Run.the-variants.{Of as Found, Bad as NoRun}
 use Rattle.records.specs.declared.Number.the-variants.{Of as Counted, Bad as NoNumber}
-use Rattle.heads.proofs.HeadLaws.{bytes-take}
-use Rattle.heads.proofs.HeadLaws.{drop-bytes}
+use Rattle.cbor_heads.proofs.HeadLaws.{bytes-take}
+use Rattle.cbor_heads.proofs.HeadLaws.{drop-bytes}
 use Rattle.records.proofs.Littles.{little-length, little-read, little-written}
 
 pub record Ran (s : List ℕ) (at n from to : ℕ) : Type 0 where

@@ -5,8 +5,8 @@ use Prim.Native.Nat.{ℕ, zero, suc, _+_, _-_, _*_, _/_, _%_}
 use lib.Dec.{ltb}
 use lib.ListN.{length}
 use Rattle.basis.specs.Basis.{pick, between}
-use Rattle.cbor.specs.Strings.{contentOf}
-use Rattle.cbor.specs.declared.Class.{Class}
+use Rattle.cbor_strings.specs.Strings.{contentOf}
+use Rattle.cbor_strings.specs.declared.Class.{Class}
 use Rattle.records.specs.declared.Run.{Run}
 use Rattle.records.specs.declared.Run.the-variants.{Of as Found, Bad as NoRun}
 use Rattle.records.specs.declared.Number.{Number}
@@ -35,7 +35,7 @@ recordBytes kind body = little 2 (length body) ++ (little 2 kind ++ body)
 unfoldable pub runAt : List ℕ → ℕ → ℕ → Run
 runAt s at n = pick (ltb (length s) at) NoRun (pick (ltb (length s - at) n) NoRun (Found at (at + n)))
 
--- a step that is right hands on what it found; see Steps of `keys`
+-- a step that is right hands on what it found; see Steps of `cbor_keys`
 abbrev pub afterRun : {A : Type 0} → A → (ℕ → ℕ → A) → Run → A
 afterRun bad rest NoRun = bad
 afterRun bad rest (Found from to) = rest from to

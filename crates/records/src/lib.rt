@@ -1,6 +1,6 @@
 // House records: little-endian numbers, records with their kind, strings behind their lengths. A reader
 // takes a slice of any length and a place in it; there is one defect, that it is not there as it should be.
-use cbor::Class;
+use cbor_strings::Class;
 ghost use mathlib.Core.Path.{_≡_};
 ghost use Prim.Native.Nat.{_≤_};
 ghost use lib.ListN.{length};
@@ -85,7 +85,7 @@ pub fn text_at(s: &[u8], at: usize, width: u8, class: Class, low: u64, high: u64
             match run_at(s, next, n) {
                 Run::Bad => Run::Bad,
                 Run::Of { from, to } => {
-                    if cbor::content(&s[from..to], class) {
+                    if cbor_strings::content(&s[from..to], class) {
                         return Run::Of { from, to };
                     }
                     Run::Bad

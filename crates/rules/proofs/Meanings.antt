@@ -9,13 +9,13 @@ use borrow.Author.Tests.{eqb-true, eq-eqb, le-leb}
 use lib.Dec.{eqb}
 use lib.ListN.{length, drop}
 use Rattle.basis.specs.Basis.{pick, IsBytes}
-use Rattle.cidr.specs.Prefixes.{Prefix, Good}
-use Rattle.cidr.specs.Bits.{Agree, agreeOf}
-use Rattle.cidr.proofs.BitLaws.{agree-bits, bits-agree}
-use Rattle.caveat.specs.Caveats.{exp, method, ip-cidr}
-use Rattle.requests.specs.Requests.{Request}
+use Rattle.token_cidr.specs.Prefixes.{Prefix, Good}
+use Rattle.token_cidr.specs.Bits.{Agree, agreeOf}
+use Rattle.token_cidr.proofs.BitLaws.{agree-bits, bits-agree}
+use Rattle.token_caveat.specs.Caveats.{exp, method, ip-cidr}
+use Rattle.records_request.specs.Requests.{Request}
 use Rattle.rules.specs.Holding.{memberOf, onlyThere, addressBytes, caveatHolds}
-use Rattle.comparing.specs.Fitting.{fitsOf}
+use Rattle.rules_compare.specs.Fitting.{fitsOf}
 
 -- a prefix fits a path exactly when the path is the prefix and something behind it
 pub starts-fits : (p t : List ℕ) → fitsOf p (p ++ t) ≡ true

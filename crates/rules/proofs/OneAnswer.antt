@@ -3,9 +3,9 @@ use mathlib.Core.Path.{_≡_}
 use mathlib.Core.List.{List}
 use Prim.Native.Nat.{ℕ}
 use Rattle.basis.proofs.OneAnswer.{told}
-use Rattle.scope.specs.declared.Prefix.{Prefix}
-use Rattle.scope.specs.declared.Limit.{Limit}
-use Rattle.caveat_values.specs.declared.Caveat.{Caveat}
+use Rattle.token_scope.specs.declared.Prefix.{Prefix}
+use Rattle.token_scope.specs.declared.Limit.{Limit}
+use Rattle.token_caveat_values.specs.declared.Caveat.{Caveat}
 use Rattle.rules.specs.Judging.{scopeJudged, caveatJudged}
 use Rattle.rules.specs.declared.Asked.{Asked}
 

@@ -11,31 +11,31 @@ use Rattle.basis.specs.Basis.{between}
 use Rattle.basis.specs.Same.{sameOf}
 use Rattle.answers.specs.Answers.{numberOf}
 use Rattle.basis.proofs.Parts.{past}
-use Rattle.cbor.specs.declared.Class.the-variants.{Upper}
-use Rattle.keys.specs.Maps.{text, texts}
-use Rattle.keys.proofs.TextLaws.{text-written, text-held}
-use Rattle.cidr.specs.Prefixes.{Prefix as Address, Good as GoodAddress}
-use Rattle.cidr.specs.Bits.{agreeOf}
-use Rattle.scope.specs.Scopes.{Scope, AllMethods, GoodScope}
-use Rattle.scope.specs.declared.Prefix.{Prefix}
-use Rattle.scope.specs.declared.Prefix.the-variants.{Absent as NoPrefix, Of as PrefixAt}
-use Rattle.scope.specs.declared.Limit.{Limit}
-use Rattle.scope.proofs.Holds.{limitOf, PrefixHeld, Holds as ScopeHeld}
-use Rattle.caveat.specs.Caveats.{Caveat, amnesia, GoodCaveat}
-use Rattle.caveat_values.specs.declared.Caveat.{Caveat as Part}
-use Rattle.caveat.proofs.Holds.{Holds as CaveatIs, exp-is, nbf-is, aud-is, method-is, path-is, cidr-is, bytes-is, rate-is, tenant-is, amnesia-is, digest-is, custom-is}
-use Rattle.requests.specs.Requests.{Request, PerSecond}
-use Rattle.requests.specs.declared.Peer.{Peer}
-use Rattle.requests.specs.declared.Peer.the-variants.{Absent as NoPeer, At as PeerAt}
-use Rattle.requests.specs.declared.Digest.{Digest}
-use Rattle.requests.specs.declared.Digest.the-variants.{Absent as NoDigest, At as DigestAt}
-use Rattle.requests.specs.declared.Rate.{Rate}
-use Rattle.requests.specs.declared.Audience.{Audience}
-use Rattle.requests.specs.declared.Audience.the-variants.{Absent as NoAudience, Of as AudienceAt}
-use Rattle.requests.proofs.Holds.{PeerHeld, DigestHeld, rateOf, AudienceHeld}
+use Rattle.cbor_strings.specs.declared.Class.the-variants.{Upper}
+use Rattle.cbor_keys.specs.Maps.{text, texts}
+use Rattle.cbor_keys.proofs.TextLaws.{text-written, text-held}
+use Rattle.token_cidr.specs.Prefixes.{Prefix as Address, Good as GoodAddress}
+use Rattle.token_cidr.specs.Bits.{agreeOf}
+use Rattle.token_scope.specs.Scopes.{Scope, AllMethods, GoodScope}
+use Rattle.token_scope.specs.declared.Prefix.{Prefix}
+use Rattle.token_scope.specs.declared.Prefix.the-variants.{Absent as NoPrefix, Of as PrefixAt}
+use Rattle.token_scope.specs.declared.Limit.{Limit}
+use Rattle.token_scope.proofs.Holds.{limitOf, PrefixHeld, Holds as ScopeHeld}
+use Rattle.token_caveat.specs.Caveats.{Caveat, amnesia, GoodCaveat}
+use Rattle.token_caveat_values.specs.declared.Caveat.{Caveat as Part}
+use Rattle.token_caveat.proofs.Holds.{Holds as CaveatIs, exp-is, nbf-is, aud-is, method-is, path-is, cidr-is, bytes-is, rate-is, tenant-is, amnesia-is, digest-is, custom-is}
+use Rattle.records_request.specs.Requests.{Request, PerSecond}
+use Rattle.records_request.specs.declared.Peer.{Peer}
+use Rattle.records_request.specs.declared.Peer.the-variants.{Absent as NoPeer, At as PeerAt}
+use Rattle.records_request.specs.declared.Digest.{Digest}
+use Rattle.records_request.specs.declared.Digest.the-variants.{Absent as NoDigest, At as DigestAt}
+use Rattle.records_request.specs.declared.Rate.{Rate}
+use Rattle.records_request.specs.declared.Audience.{Audience}
+use Rattle.records_request.specs.declared.Audience.the-variants.{Absent as NoAudience, Of as AudienceAt}
+use Rattle.records_request.proofs.Holds.{PeerHeld, DigestHeld, rateOf, AudienceHeld}
 use Rattle.rules.specs.Holding.{memberOf, ifThere, onlyThere, addressBytes, within, failing, caveatHolds, scopeAnswer, caveatAnswer}
-use Rattle.comparing.specs.Fitting.{fitsOf}
-use Rattle.comparing.specs.Comparing.{memberAt, rateHolds, prefixFits, limitHolds, audienceIs, digestIs, peerAgrees}
+use Rattle.rules_compare.specs.Fitting.{fitsOf}
+use Rattle.rules_compare.specs.Comparing.{memberAt, rateHolds, prefixFits, limitHolds, audienceIs, digestIs, peerAgrees}
 use Rattle.rules.specs.Judging.{scopeJudged, amnesiaHeld, caveatHeld, failingOf, caveatJudged}
 use Rattle.rules.specs.declared.Asked.{Asked}
 

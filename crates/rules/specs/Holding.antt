@@ -10,12 +10,12 @@ use Rattle.basis.specs.Same.{sameOf}
 use Rattle.answers.specs.Answers.{numberOf}
 use Rattle.answers.specs.declared.Answer.{Answer}
 use Rattle.answers.specs.declared.Answer.the-variants.{Allow, CaveatMethod, CaveatPath, CaveatBytes, CaveatExp, CaveatNbf, CaveatAud, CaveatIp, CaveatRate, CaveatTenant, CaveatAmnesia, CaveatPolicyDigest, CaveatCustomUnknown}
-use Rattle.cidr.specs.Prefixes.{Prefix}
-use Rattle.cidr.specs.Bits.{agreeOf}
-use Rattle.requests.specs.Requests.{Request, PerSecond}
-use Rattle.scope.specs.Scopes.{Scope}
-use Rattle.caveat.specs.Caveats.{Caveat, exp, nbf, aud, method, path-prefix, ip-cidr, bytes-le, rate, tenant, amnesia, gov-policy-digest, custom}
-use Rattle.comparing.specs.Fitting.{fitsOf}
+use Rattle.token_cidr.specs.Prefixes.{Prefix}
+use Rattle.token_cidr.specs.Bits.{agreeOf}
+use Rattle.records_request.specs.Requests.{Request, PerSecond}
+use Rattle.token_scope.specs.Scopes.{Scope}
+use Rattle.token_caveat.specs.Caveats.{Caveat, exp, nbf, aud, method, path-prefix, ip-cidr, bytes-le, rate, tenant, amnesia, gov-policy-digest, custom}
+use Rattle.rules_compare.specs.Fitting.{fitsOf}
 
 -- "in the list"; an empty list has nothing in it
 unfoldable pub memberOf : List ℕ → List (List ℕ) → Bool
@@ -61,7 +61,7 @@ caveatHolds r tid (nbf n) = leb n (r .now + r .skew)
 caveatHolds r tid (aud a) = onlyThere (sameOf a) (r .audience)
 caveatHolds r tid (method ms) = memberOf (r .method) ms
 caveatHolds r tid (path-prefix p) = fitsOf p (r .path)
--- "a present peer's first n bits agree": byte by byte; that these are the bits, `Agree` of `cidr`, is `first-bits` of proofs/Meanings.antt
+-- "a present peer's first n bits agree": byte by byte; that these are the bits, `Agree` of `token_cidr`, is `first-bits` of proofs/Meanings.antt
 caveatHolds r tid (ip-cidr p) = onlyThere (λ x. agreeOf (addressBytes p) x (p .size)) (r .peer)
 caveatHolds r tid (bytes-le n) = leb (r .size) n
 caveatHolds r tid (rate per-s burst) = onlyThere (within per-s burst) (r .rate)

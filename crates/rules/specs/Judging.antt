@@ -5,13 +5,13 @@ use Prim.Native.Nat.{ℕ, _+_}
 use lib.Dec.{leb}
 use Rattle.basis.specs.Basis.{pick, between}
 use Rattle.basis.specs.Same.{sameOf}
-use Rattle.scope.specs.declared.Prefix.{Prefix}
-use Rattle.scope.specs.declared.Limit.{Limit}
-use Rattle.caveat_values.specs.declared.Caveat.{Caveat}
-use Rattle.caveat_values.specs.declared.Caveat.the-variants.{Exp, Nbf, Aud, Method, PathPrefix, IpCidr, BytesLe, Rate, Tenant, Amnesia, GovPolicyDigest, Custom}
-use Rattle.comparing.specs.Fitting.{fitsOf}
+use Rattle.token_scope.specs.declared.Prefix.{Prefix}
+use Rattle.token_scope.specs.declared.Limit.{Limit}
+use Rattle.token_caveat_values.specs.declared.Caveat.{Caveat}
+use Rattle.token_caveat_values.specs.declared.Caveat.the-variants.{Exp, Nbf, Aud, Method, PathPrefix, IpCidr, BytesLe, Rate, Tenant, Amnesia, GovPolicyDigest, Custom}
+use Rattle.rules_compare.specs.Fitting.{fitsOf}
 use Rattle.rules.specs.declared.Asked.{Asked}
-use Rattle.comparing.specs.Comparing.{memberAt, rateHolds, prefixFits, limitHolds, audienceIs, digestIs, peerAgrees}
+use Rattle.rules_compare.specs.Comparing.{memberAt, rateHolds, prefixFits, limitHolds, audienceIs, digestIs, peerAgrees}
 
 -- 0, or the number of the first of method, path and bytes that fails
 unfoldable pub scopeJudged : List ℕ → Prefix → ℕ → ℕ → Limit → List ℕ → List ℕ → ℕ → ℕ
@@ -22,7 +22,7 @@ scopeJudged s prefix count from limit method path size =
 unfoldable pub amnesiaHeld : Bool → Bool → Bool
 amnesiaHeld on flag = pick on flag true
 
--- a caveat's parts in the part that it was read from; see Holds of `caveat`
+-- a caveat's parts in the part that it was read from; see Holds of `token_caveat`
 unfoldable pub caveatHeld : List ℕ → Caveat → List ℕ → Asked → List ℕ → Bool
 caveatHeld s (Exp n) body q tid = leb (q .time) (n + q .skew)
 caveatHeld s (Nbf n) body q tid = leb n (q .time + q .skew)

@@ -1,11 +1,11 @@
 // What holds when: document 01's rules, judged where the parts lie.
-use caveat_values::Caveat;
-use requests::Audience;
-use requests::Digest;
-use requests::Peer;
-use requests::Rate;
-use scope::Limit;
-use scope::Prefix;
+use records_request::Audience;
+use records_request::Digest;
+use records_request::Peer;
+use records_request::Rate;
+use token_caveat_values::Caveat;
+use token_scope::Limit;
+use token_scope::Prefix;
 ghost use mathlib.Core.Path.{_≡_};
 ghost use Rattle.rules.specs.Judging.{scopeJudged};
 ghost use Rattle.rules.specs.Judging.{caveatHeld, failingOf, caveatJudged};
@@ -39,9 +39,9 @@ pub fn scope_answer(
 ) -> u32
     ensures { λ r. ⌜ r ≡ scopeJudged (now (s .entry)) prefix count from limit (now (method .entry)) (now (path .entry)) size ⌝ }
 {
-    if comparing::method_in(s, from, count, method) {
-        if comparing::prefix_fits(s, prefix, path) {
-            if comparing::limit_holds(limit, size) {
+    if rules_compare::method_in(s, from, count, method) {
+        if rules_compare::prefix_fits(s, prefix, path) {
+            if rules_compare::limit_holds(limit, size) {
                 return 0;
             }
             return 12;
@@ -56,14 +56,14 @@ fn caveat_holds(s: &[u8], caveat: Caveat, body: &[u8], asked: Asked, tid: &[u8])
     ensures { λ r. ⌜ r ≡ caveatHeld (now (s .entry)) caveat (now (body .entry)) asked (now (tid .entry)) ⌝ }
 {
     match caveat {
-        Caveat::Exp { n } => comparing::within_skew(asked.time, n, asked.skew),
-        Caveat::Nbf { n } => comparing::within_skew(n, asked.time, asked.skew),
+        Caveat::Exp { n } => rules_compare::within_skew(asked.time, n, asked.skew),
+        Caveat::Nbf { n } => rules_compare::within_skew(n, asked.time, asked.skew),
         Caveat::Aud { from, to } => {
             let audience = asked.audience;
-            comparing::audience_is(body, audience, basis::part(s, from, to))
+            rules_compare::audience_is(body, audience, basis::part(s, from, to))
         }
         Caveat::Method { count, from, to: _ } => {
-            comparing::method_in(
+            rules_compare::method_in(
                 s,
                 from,
                 count,
@@ -71,19 +71,19 @@ fn caveat_holds(s: &[u8], caveat: Caveat, body: &[u8], asked: Asked, tid: &[u8])
             )
         }
         Caveat::PathPrefix { from, to } => {
-            comparing::fits(
+            rules_compare::fits(
                 basis::part(s, from, to),
                 basis::part(body, asked.path, asked.path_end),
             )
         }
         Caveat::IpCidr { a, b, c, d, n } => {
             let peer = asked.peer;
-            comparing::peer_agrees(body, peer, a, b, c, d, n)
+            rules_compare::peer_agrees(body, peer, a, b, c, d, n)
         }
         Caveat::BytesLe { n } => asked.size <= n,
         Caveat::Rate { per_s, burst } => {
             let rate = asked.rate;
-            comparing::rate_holds(rate, per_s, burst)
+            rules_compare::rate_holds(rate, per_s, burst)
         }
         Caveat::Tenant { from, to } => basis::same(basis::part(s, from, to), tid),
         Caveat::Amnesia { on } => {
@@ -94,7 +94,7 @@ fn caveat_holds(s: &[u8], caveat: Caveat, body: &[u8], asked: Asked, tid: &[u8])
         }
         Caveat::GovPolicyDigest { from, to } => {
             let digest = asked.digest;
-            comparing::digest_is(body, digest, basis::part(s, from, to))
+            rules_compare::digest_is(body, digest, basis::part(s, from, to))
         }
         Caveat::Custom {
             ns: _,

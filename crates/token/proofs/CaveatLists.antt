@@ -9,16 +9,16 @@ use lib.ListN.{length, drop}
 use lib.Seq.{drop-drop}
 use Rattle.basis.specs.Basis.{IsBytes}
 use Rattle.basis.proofs.Parts.{past, ends, on}
-use Rattle.heads.proofs.HeadLaws.{drop-bytes}
-use Rattle.values.specs.Reading.{andThen, itemsOf}
-use Rattle.values.specs.declared.Item.{Item}
-use Rattle.values.specs.declared.Item.the-variants.{End, Bad as NoItem}
-use Rattle.caveat.specs.Caveats.{Caveat, encodeCaveat, GoodCaveat}
-use Rattle.caveat.specs.Reading.{caveatOf}
-use Rattle.caveat_values.specs.declared.CaveatParts.{CaveatParts}
-use Rattle.caveat_values.specs.declared.CaveatParts.the-variants.{Of as CaveatAt, Bad as NoCaveat}
-use Rattle.caveat.proofs.CaveatLaws.{caveat-written, caveat-read}
-use Rattle.caveat.proofs.OneCaveat.{caveat-one}
+use Rattle.cbor_heads.proofs.HeadLaws.{drop-bytes}
+use Rattle.cbor_values.specs.Reading.{andThen, itemsOf}
+use Rattle.cbor_values.specs.declared.Item.{Item}
+use Rattle.cbor_values.specs.declared.Item.the-variants.{End, Bad as NoItem}
+use Rattle.token_caveat.specs.Caveats.{Caveat, encodeCaveat, GoodCaveat}
+use Rattle.token_caveat.specs.Reading.{caveatOf}
+use Rattle.token_caveat_values.specs.declared.CaveatParts.{CaveatParts}
+use Rattle.token_caveat_values.specs.declared.CaveatParts.the-variants.{Of as CaveatAt, Bad as NoCaveat}
+use Rattle.token_caveat.proofs.CaveatLaws.{caveat-written, caveat-read}
+use Rattle.token_caveat.proofs.OneCaveat.{caveat-one}
 use Rattle.token.specs.Tokens.{encodeCaveats, AllCaveats}
 use Rattle.token_front.specs.Front.{endBy, caveatEnd}
 

@@ -6,23 +6,23 @@ use Prim.Native.Nat.{ℕ}
 use lib.Dec.{eqb}
 use lib.ListN.{length, drop}
 use Rattle.basis.proofs.Picks.{either}
-use Rattle.heads.specs.Counts.{readCount}
-use Rattle.cbor.specs.Strings.{readRun}
-use Rattle.cbor.specs.declared.Span.the-variants.{Of as Found, Bad as NoSpan}
-use Rattle.cbor.proofs.DefectKinds.{Kind, kind-4, kind-5, kind-6, SpanKind, count-kinds, run-kinds}
-use Rattle.values.specs.Reading.{itemsOf}
-use Rattle.values.specs.declared.Item.the-variants.{End, Bad as NoItem}
-use Rattle.values.proofs.DefectKinds.{ItemKind, items-kinds}
-use Rattle.keys.specs.Keys.{wantedKey}
-use Rattle.keys.specs.Fields.{nameField, numberAt}
-use Rattle.keys.specs.declared.Names.the-variants.{Token as TokenKeys}
-use Rattle.keys.proofs.DefectKinds.{item-step, span-step, count-step, wanted-kinds, number-kinds, name-field-kinds}
-use Rattle.scope.specs.Reading.{scopeOf}
-use Rattle.scope.proofs.DefectKinds.{scope-kinds, scope-step}
-use Rattle.caveat.specs.Reading.{caveatOf}
-use Rattle.caveat_values.specs.declared.CaveatParts.{CaveatParts}
-use Rattle.caveat_values.specs.declared.CaveatParts.the-variants.{Of as CaveatAt, Bad as NoCaveat}
-use Rattle.caveat.proofs.DefectKinds.{CaveatKind, caveat-kinds}
+use Rattle.cbor_heads.specs.Counts.{readCount}
+use Rattle.cbor_strings.specs.Strings.{readRun}
+use Rattle.cbor_strings.specs.declared.Span.the-variants.{Of as Found, Bad as NoSpan}
+use Rattle.cbor_strings.proofs.DefectKinds.{Kind, kind-4, kind-5, kind-6, SpanKind, count-kinds, run-kinds}
+use Rattle.cbor_values.specs.Reading.{itemsOf}
+use Rattle.cbor_values.specs.declared.Item.the-variants.{End, Bad as NoItem}
+use Rattle.cbor_values.proofs.DefectKinds.{ItemKind, items-kinds}
+use Rattle.cbor_keys.specs.Keys.{wantedKey}
+use Rattle.cbor_keys.specs.Fields.{nameField, numberAt}
+use Rattle.cbor_keys.specs.declared.Names.the-variants.{Token as TokenKeys}
+use Rattle.cbor_keys.proofs.DefectKinds.{item-step, span-step, count-step, wanted-kinds, number-kinds, name-field-kinds}
+use Rattle.token_scope.specs.Reading.{scopeOf}
+use Rattle.token_scope.proofs.DefectKinds.{scope-kinds, scope-step}
+use Rattle.token_caveat.specs.Reading.{caveatOf}
+use Rattle.token_caveat_values.specs.declared.CaveatParts.{CaveatParts}
+use Rattle.token_caveat_values.specs.declared.CaveatParts.the-variants.{Of as CaveatAt, Bad as NoCaveat}
+use Rattle.token_caveat.proofs.DefectKinds.{CaveatKind, caveat-kinds}
 use Rattle.token_front.specs.Front.{endBy, caveatEnd, frontThen, rThen, rKeyThen, caveatsThen, cThen, mapThen, frontOf}
 use Rattle.token_back.specs.Back.{tagBad, tagAt, tagField, versionThen, versionAt, versionField, endThen, tidThen, kidThen, vThen, backOf}
 use Rattle.token.specs.Reading.{tokenThen, tokenBy, tokenOf}

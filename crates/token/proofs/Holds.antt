@@ -4,8 +4,8 @@ use mathlib.Core.List.{List, _++_}
 use Prim.Native.Nat.{ℕ, _+_}
 use lib.ListN.{length, drop}
 use Rattle.basis.specs.Basis.{between}
-use Rattle.scope.specs.Scopes.{Scope, encodeScope}
-use Rattle.caveat.specs.Caveats.{Caveat}
+use Rattle.token_scope.specs.Scopes.{Scope, encodeScope}
+use Rattle.token_caveat.specs.Caveats.{Caveat}
 use Rattle.token.specs.Tokens.{Token, encodeCaveats}
 
 pub record HoldsFront (s : List ℕ) (cs : List Caveat) (x : Scope) (count from to scope scope-end : ℕ) : Type 0 where

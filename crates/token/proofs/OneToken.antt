@@ -3,9 +3,9 @@ use mathlib.Core.Path.{_≡_, refl, sym, _∙_}
 use mathlib.Core.List.{List}
 use Prim.Native.Nat.{ℕ}
 use lib.ListN.{drop}
-use Rattle.scope.specs.Scopes.{Scope}
-use Rattle.scope.proofs.OneScope.{scope-one}
-use Rattle.caveat.specs.Caveats.{Caveat}
+use Rattle.token_scope.specs.Scopes.{Scope}
+use Rattle.token_scope.proofs.OneScope.{scope-one}
+use Rattle.token_caveat.specs.Caveats.{Caveat}
 use Rattle.token.specs.Tokens.{Token, encodeToken, GoodToken}
 use Rattle.token.proofs.CaveatLists.{caveats-one}
 use Rattle.token.proofs.Holds.{Holds}

@@ -9,26 +9,26 @@ use lib.ListN.{length, drop, length-drop, drop-of-length-le}
 use lib.Seq.{length-take-le}
 use Rattle.basis.specs.Basis.{ascii, between, IsBytes}
 use Rattle.basis.proofs.Parts.{on, lies}
-use Rattle.heads.specs.Heads.{head}
-use Rattle.heads.specs.Counts.{readCount}
-use Rattle.cbor.specs.Strings.{string, readRun}
-use Rattle.cbor.specs.declared.Span.the-variants.{Of as Found, Bad as NoSpan}
-use Rattle.heads.proofs.CountLaws.{there-head, counted}
-use Rattle.cbor.proofs.RunReads.{found}
-use Rattle.cbor.proofs.StringLaws.{written-run}
-use Rattle.values.specs.Reading.{itemsOf}
-use Rattle.values.specs.declared.Item.the-variants.{End, Bad as NoItem}
-use Rattle.keys.specs.Keys.{keysOf, wantedKey}
-use Rattle.keys.specs.Fields.{nameField, numberAt}
-use Rattle.keys.specs.Maps.{text, entry}
-use Rattle.keys.specs.declared.Names.the-variants.{Token as TokenKeys}
-use Rattle.keys.proofs.KeyLaws.{wanted-read}
-use Rattle.keys.proofs.FieldLaws.{name-field-read}
-use Rattle.keys.proofs.StepLaws.{item-went, span-went, count-went, must-take}
-use Rattle.scope.specs.Scopes.{Scope, encodeScope, GoodScope}
-use Rattle.scope.specs.Reading.{scopeOf}
-use Rattle.scope.proofs.ScopeRead.{scope-read, scope-went, scope-long}
-use Rattle.caveat.specs.Caveats.{Caveat, GoodName}
+use Rattle.cbor_heads.specs.Heads.{head}
+use Rattle.cbor_heads.specs.Counts.{readCount}
+use Rattle.cbor_strings.specs.Strings.{string, readRun}
+use Rattle.cbor_strings.specs.declared.Span.the-variants.{Of as Found, Bad as NoSpan}
+use Rattle.cbor_heads.proofs.CountLaws.{there-head, counted}
+use Rattle.cbor_strings.proofs.RunReads.{found}
+use Rattle.cbor_strings.proofs.StringLaws.{written-run}
+use Rattle.cbor_values.specs.Reading.{itemsOf}
+use Rattle.cbor_values.specs.declared.Item.the-variants.{End, Bad as NoItem}
+use Rattle.cbor_keys.specs.Keys.{keysOf, wantedKey}
+use Rattle.cbor_keys.specs.Fields.{nameField, numberAt}
+use Rattle.cbor_keys.specs.Maps.{text, entry}
+use Rattle.cbor_keys.specs.declared.Names.the-variants.{Token as TokenKeys}
+use Rattle.cbor_keys.proofs.KeyLaws.{wanted-read}
+use Rattle.cbor_keys.proofs.FieldLaws.{name-field-read}
+use Rattle.cbor_keys.proofs.StepLaws.{item-went, span-went, count-went, must-take}
+use Rattle.token_scope.specs.Scopes.{Scope, encodeScope, GoodScope}
+use Rattle.token_scope.specs.Reading.{scopeOf}
+use Rattle.token_scope.proofs.ScopeRead.{scope-read, scope-went, scope-long}
+use Rattle.token_caveat.specs.Caveats.{Caveat, GoodName}
 use Rattle.token.specs.Tokens.{Token, encodeCaveats, tokenBytes, encodeToken, AllCaveats, GoodToken}
 use Rattle.token_front.specs.Front.{caveatEnd, frontThen, rThen, rKeyThen, caveatsThen, cThen, mapThen, frontOf}
 use Rattle.token_back.specs.Back.{tagAt, tagField, versionThen, versionAt, versionField}

@@ -8,21 +8,21 @@ use lib.ListN.{length, drop, length-append, length-drop}
 use Rattle.basis.specs.Basis.{ascii, between}
 use Rattle.basis.specs.Same.{sameOf}
 use Rattle.basis.proofs.Parts.{past, ends, lies}
-use Rattle.heads.specs.Heads.{head}
-use Rattle.cbor.specs.Strings.{string}
-use Rattle.cbor.specs.declared.Span.the-variants.{Of as Found}
-use Rattle.heads.proofs.CountLaws.{head-there, count}
-use Rattle.heads.proofs.HeadLengths.{head-one}
-use Rattle.cbor.proofs.StringLaws.{read-run-written, content-there}
-use Rattle.values.specs.declared.Item.the-variants.{End}
-use Rattle.keys.specs.Keys.{keysOf, indexFrom}
-use Rattle.keys.specs.Maps.{text, entry}
-use Rattle.keys.specs.declared.Names.the-variants.{Token as TokenKeys}
-use Rattle.keys.proofs.KeyLaws.{wanted-written}
-use Rattle.keys.proofs.FieldLaws.{name-field-written, name-lies, number-written}
-use Rattle.scope.specs.Scopes.{Scope, encodeScope, GoodScope}
-use Rattle.scope.proofs.ScopeWritten.{scope-written}
-use Rattle.caveat.specs.Caveats.{Caveat, GoodName}
+use Rattle.cbor_heads.specs.Heads.{head}
+use Rattle.cbor_strings.specs.Strings.{string}
+use Rattle.cbor_strings.specs.declared.Span.the-variants.{Of as Found}
+use Rattle.cbor_heads.proofs.CountLaws.{head-there, count}
+use Rattle.cbor_heads.proofs.HeadLengths.{head-one}
+use Rattle.cbor_strings.proofs.StringLaws.{read-run-written, content-there}
+use Rattle.cbor_values.specs.declared.Item.the-variants.{End}
+use Rattle.cbor_keys.specs.Keys.{keysOf, indexFrom}
+use Rattle.cbor_keys.specs.Maps.{text, entry}
+use Rattle.cbor_keys.specs.declared.Names.the-variants.{Token as TokenKeys}
+use Rattle.cbor_keys.proofs.KeyLaws.{wanted-written}
+use Rattle.cbor_keys.proofs.FieldLaws.{name-field-written, name-lies, number-written}
+use Rattle.token_scope.specs.Scopes.{Scope, encodeScope, GoodScope}
+use Rattle.token_scope.proofs.ScopeWritten.{scope-written}
+use Rattle.token_caveat.specs.Caveats.{Caveat, GoodName}
 use Rattle.token.specs.Tokens.{Token, encodeCaveats, tokenBytes, encodeToken, AllCaveats, GoodToken}
 use Rattle.token_front.specs.Front.{rThen, rKeyThen, caveatsThen, cThen, mapThen, frontOf}
 use Rattle.token_back.specs.Back.{tagAt, tagField, versionThen, versionAt, versionField}

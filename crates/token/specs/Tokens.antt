@@ -4,11 +4,11 @@ use mathlib.Core.Path.{_≡_}
 use mathlib.Core.List.{List, [], _∷_, _++_}
 use Prim.Native.Nat.{ℕ, _≤_}
 use lib.ListN.{length}
-use Rattle.heads.specs.Heads.{head}
-use Rattle.cbor.specs.Strings.{string}
-use Rattle.keys.specs.Maps.{text, entry}
-use Rattle.scope.specs.Scopes.{Scope, encodeScope, GoodScope}
-use Rattle.caveat.specs.Caveats.{Caveat, encodeCaveat, GoodName, GoodCaveat}
+use Rattle.cbor_heads.specs.Heads.{head}
+use Rattle.cbor_strings.specs.Strings.{string}
+use Rattle.cbor_keys.specs.Maps.{text, entry}
+use Rattle.token_scope.specs.Scopes.{Scope, encodeScope, GoodScope}
+use Rattle.token_caveat.specs.Caveats.{Caveat, encodeCaveat, GoodName, GoodCaveat}
 
 pub record Token : Type 0 where
   pub caveats : List Caveat

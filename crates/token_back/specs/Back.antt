@@ -6,15 +6,15 @@ use Prim.Native.Nat.{ℕ}
 use lib.Dec.{eqb}
 use lib.ListN.{length}
 use Rattle.basis.specs.Basis.{pick}
-use Rattle.cbor.specs.Strings.{readRun}
-use Rattle.cbor.specs.declared.Span.{Span}
-use Rattle.cbor.specs.declared.Span.the-variants.{Of as Found, Bad as NoSpan}
-use Rattle.values.specs.declared.Item.{Item}
-use Rattle.values.specs.declared.Item.the-variants.{End, Bad as NoItem}
-use Rattle.keys.specs.Keys.{wantedKey}
-use Rattle.keys.specs.Fields.{nameField, numberAt}
-use Rattle.keys.specs.Steps.{afterItem, afterSpan, afterCount}
-use Rattle.keys.specs.declared.Names.the-variants.{Token as TokenKeys}
+use Rattle.cbor_strings.specs.Strings.{readRun}
+use Rattle.cbor_strings.specs.declared.Span.{Span}
+use Rattle.cbor_strings.specs.declared.Span.the-variants.{Of as Found, Bad as NoSpan}
+use Rattle.cbor_values.specs.declared.Item.{Item}
+use Rattle.cbor_values.specs.declared.Item.the-variants.{End, Bad as NoItem}
+use Rattle.cbor_keys.specs.Keys.{wantedKey}
+use Rattle.cbor_keys.specs.Fields.{nameField, numberAt}
+use Rattle.cbor_keys.specs.Steps.{afterItem, afterSpan, afterCount}
+use Rattle.cbor_keys.specs.declared.Names.the-variants.{Token as TokenKeys}
 use Rattle.token_back.specs.declared.Back.{Back}
 use Rattle.token_back.specs.declared.Back.the-variants.{Of as BackOf, Bad as NoBack}
 

@@ -1,9 +1,9 @@
 // The back of a token: tag, version, kid and tid, and nothing behind them. A defect carries document 01's number and
 // the place of the item at fault.
-use cbor::Span;
-use heads::Count;
-use keys::Names;
-use values::Item;
+use cbor_heads::Count;
+use cbor_keys::Names;
+use cbor_strings::Span;
+use cbor_values::Item;
 ghost use mathlib.Core.Path.{_≡_};
 ghost use Rattle.token_back.specs.Back.{tagField, versionField, backOf};
 
@@ -26,9 +26,9 @@ pub enum Back {
 fn tag_field(s: &[u8], at: usize) -> Span
     ensures { λ r. ⌜ r ≡ tagField (now (s .entry)) at ⌝ }
 {
-    match keys::wanted_key(s, at, Names::Token, 2) {
+    match cbor_keys::wanted_key(s, at, Names::Token, 2) {
         Item::Bad { kind, at: a } => Span::Bad { kind, at: a },
-        Item::End { next: p } => match cbor::read_run(s, p, 2, 32, 32) {
+        Item::End { next: p } => match cbor_strings::read_run(s, p, 2, 32, 32) {
             Span::Bad { kind: _, at: a } => Span::Bad { kind: 4, at: a },
             Span::Of { from, to } => Span::Of { from, to },
         },
@@ -38,9 +38,16 @@ fn tag_field(s: &[u8], at: usize) -> Span
 fn version_field(s: &[u8], at: usize) -> Item
     ensures { λ r. ⌜ r ≡ versionField (now (s .entry)) at ⌝ }
 {
-    match keys::wanted_key(s, at, Names::Token, 3) {
+    match cbor_keys::wanted_key(s, at, Names::Token, 3) {
         Item::Bad { kind, at: a } => Item::Bad { kind, at: a },
-        Item::End { next: p } => match heads::read_count(s, p, 0, 0, 0xffff_ffff_ffff_ffff, 5) {
+        Item::End { next: p } => match cbor_heads::read_count(
+            s,
+            p,
+            0,
+            0,
+            0xffff_ffff_ffff_ffff,
+            5,
+        ) {
             Count::Bad { kind, at: a } => Item::Bad { kind, at: a },
             Count::Of { n, next } => {
                 if n == 1 {
@@ -59,12 +66,12 @@ pub fn read_back(s: &[u8], at: usize) -> Back
         Span::Bad { kind, at: a } => Back::Bad { kind, at: a },
         Span::Of { from: tag, to: p } => match version_field(s, p) {
             Item::Bad { kind, at: a } => Back::Bad { kind, at: a },
-            Item::End { next: q } => match keys::name_field(s, q, Names::Token, 4) {
+            Item::End { next: q } => match cbor_keys::name_field(s, q, Names::Token, 4) {
                 Span::Bad { kind, at: a } => Back::Bad { kind, at: a },
                 Span::Of {
                     from: kid,
                     to: kid_end,
-                } => match keys::name_field(s, kid_end, Names::Token, 5) {
+                } => match cbor_keys::name_field(s, kid_end, Names::Token, 5) {
                     Span::Bad { kind, at: a } => Back::Bad { kind, at: a },
                     Span::Of {
                         from: tid,

@@ -4,10 +4,10 @@ use mathlib.Core.List.{List}
 use Prim.Native.Nat.{ℕ, _+_, _-_, _^_, _≤_, _<_}
 use native.Mathlib.Omega.{arith}
 use lib.ListN.{length, drop, length-drop}
-use Rattle.caveat.specs.Reading.{caveatOf}
-use Rattle.caveat_values.specs.declared.Caveat.{Caveat}
-use Rattle.caveat_values.specs.declared.CaveatParts.the-variants.{Of, Bad}
-use Rattle.caveat.proofs.Inside.{CaveatIn, caveat-in}
+use Rattle.token_caveat.specs.Reading.{caveatOf}
+use Rattle.token_caveat_values.specs.declared.Caveat.{Caveat}
+use Rattle.token_caveat_values.specs.declared.CaveatParts.the-variants.{Of, Bad}
+use Rattle.token_caveat.proofs.Inside.{CaveatIn, caveat-in}
 
 module _ (s : List ℕ) (at : ℕ) (l : length s < 2 ^ 64) (h : at < 2 ^ 64) where
   pub defect-fits : {kind a : ℕ} → caveatOf (drop at s) ≡ Bad kind a → at + a < 2 ^ 64

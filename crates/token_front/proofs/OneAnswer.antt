@@ -4,8 +4,8 @@ use mathlib.Core.List.{List}
 use Prim.Native.Nat.{ℕ}
 use lib.ListN.{drop}
 use Rattle.basis.proofs.OneAnswer.{told}
-use Rattle.caveat.specs.Reading.{caveatOf}
-use Rattle.caveat_values.specs.declared.CaveatParts.{CaveatParts}
+use Rattle.token_caveat.specs.Reading.{caveatOf}
+use Rattle.token_caveat_values.specs.declared.CaveatParts.{CaveatParts}
 use Rattle.token_front.specs.Front.{frontOf}
 use Rattle.token_front.specs.declared.Front.{Front}
 

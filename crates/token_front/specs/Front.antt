@@ -2,19 +2,19 @@
 use mathlib.Core.List.{List}
 use Prim.Native.Nat.{ℕ, _+_}
 use lib.ListN.{drop}
-use Rattle.heads.specs.Counts.{readCount}
-use Rattle.values.specs.Reading.{itemsOf}
-use Rattle.values.specs.declared.Item.{Item}
-use Rattle.values.specs.declared.Item.the-variants.{End, Bad as NoItem}
-use Rattle.keys.specs.Keys.{wantedKey}
-use Rattle.keys.specs.Steps.{afterItem, afterCount}
-use Rattle.keys.specs.declared.Names.the-variants.{Token as TokenKeys}
-use Rattle.scope.specs.Reading.{scopeOf, afterScope}
-use Rattle.scope.specs.declared.Prefix.{Prefix}
-use Rattle.scope.specs.declared.Limit.{Limit}
-use Rattle.caveat.specs.Reading.{caveatOf}
-use Rattle.caveat_values.specs.declared.CaveatParts.{CaveatParts}
-use Rattle.caveat_values.specs.declared.CaveatParts.the-variants.{Of as CaveatAt, Bad as NoCaveat}
+use Rattle.cbor_heads.specs.Counts.{readCount}
+use Rattle.cbor_values.specs.Reading.{itemsOf}
+use Rattle.cbor_values.specs.declared.Item.{Item}
+use Rattle.cbor_values.specs.declared.Item.the-variants.{End, Bad as NoItem}
+use Rattle.cbor_keys.specs.Keys.{wantedKey}
+use Rattle.cbor_keys.specs.Steps.{afterItem, afterCount}
+use Rattle.cbor_keys.specs.declared.Names.the-variants.{Token as TokenKeys}
+use Rattle.token_scope.specs.Reading.{scopeOf, afterScope}
+use Rattle.token_scope.specs.declared.Prefix.{Prefix}
+use Rattle.token_scope.specs.declared.Limit.{Limit}
+use Rattle.token_caveat.specs.Reading.{caveatOf}
+use Rattle.token_caveat_values.specs.declared.CaveatParts.{CaveatParts}
+use Rattle.token_caveat_values.specs.declared.CaveatParts.the-variants.{Of as CaveatAt, Bad as NoCaveat}
 use Rattle.token_front.specs.declared.Front.{Front}
 use Rattle.token_front.specs.declared.Front.the-variants.{Of as FrontOf, Bad as NoFront}
 

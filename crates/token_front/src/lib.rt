@@ -1,14 +1,14 @@
 // The front of a token: the map's head, the caveats where they lie, and the scope. A defect carries document 01's
 // number and the place of the item at fault.
-use caveat_values::CaveatParts;
-use heads::Count;
-use keys::Names;
-use scope::ScopeParts;
-use values::Item;
+use cbor_heads::Count;
+use cbor_keys::Names;
+use cbor_values::Item;
+use token_caveat_values::CaveatParts;
+use token_scope::ScopeParts;
 ghost use mathlib.Core.Path.{_≡_};
 ghost use lib.ListN.{drop};
-ghost use Rattle.values.specs.Reading.{itemsOf};
-ghost use Rattle.caveat.specs.Reading.{caveatOf};
+ghost use Rattle.cbor_values.specs.Reading.{itemsOf};
+ghost use Rattle.token_caveat.specs.Reading.{caveatOf};
 ghost use Rattle.token_front.specs.Front.{caveatEnd, caveatsThen, frontOf};
 
 // The caveats, how many and where they lie, and where the scope lies.
@@ -31,7 +31,7 @@ pub fn caveat_at(s: &[u8], at: usize) -> CaveatParts
     ensures { λ r. ⌜ r ≡ caveatOf (drop at (now (s .entry))) ⌝ }
 {
     let from = basis::least(at, s.len());
-    caveat::read_caveat(&s[from..])
+    token_caveat::read_caveat(&s[from..])
 }
 
 // Its places counted in the token.
@@ -69,9 +69,9 @@ fn caveats_then(s: &[u8], count: u64, from: usize) -> Front
 {
     match caveats_end(s, from, count) {
         Item::Bad { kind, at: a } => Front::Bad { kind, at: a },
-        Item::End { next: to } => match keys::wanted_key(s, to, Names::Token, 1) {
+        Item::End { next: to } => match cbor_keys::wanted_key(s, to, Names::Token, 1) {
             Item::Bad { kind, at: a } => Front::Bad { kind, at: a },
-            Item::End { next: scope } => match scope::read_scope(s, scope) {
+            Item::End { next: scope } => match token_scope::read_scope(s, scope) {
                 ScopeParts::Bad { kind, at: a } => Front::Bad { kind, at: a },
                 ScopeParts::Of {
                     prefix: _,
@@ -95,11 +95,11 @@ fn caveats_then(s: &[u8], count: u64, from: usize) -> Front
 pub fn read_front(s: &[u8]) -> Front
     ensures { λ r. ⌜ r ≡ frontOf (now (s .entry)) ⌝ }
 {
-    match heads::read_count(s, 0, 5, 6, 6, 6) {
+    match cbor_heads::read_count(s, 0, 5, 6, 6, 6) {
         Count::Bad { kind, at: a } => Front::Bad { kind, at: a },
-        Count::Of { n: _, next: p } => match keys::wanted_key(s, p, Names::Token, 0) {
+        Count::Of { n: _, next: p } => match cbor_keys::wanted_key(s, p, Names::Token, 0) {
             Item::Bad { kind, at: a } => Front::Bad { kind, at: a },
-            Item::End { next: q } => match heads::read_count(s, q, 4, 0, 64, 5) {
+            Item::End { next: q } => match cbor_heads::read_count(s, q, 4, 0, 64, 5) {
                 Count::Bad { kind, at: a } => Front::Bad { kind, at: a },
                 Count::Of {
                     n: count,

@@ -3,8 +3,8 @@
 use Prim.Native.Nat.{ℕ, _+_, _≤_}
 use mathlib.Core.List.{List, _++_}
 use lib.ListN.{length}
-use Rattle.writing.specs.Placing.{Placed}
-use Rattle.writing.proofs.PlacingLaws.{placed-fits, placed-then, shorter}
+use Rattle.cbor_writing.specs.Placing.{Placed}
+use Rattle.cbor_writing.proofs.PlacingLaws.{placed-fits, placed-then, shorter}
 
 module _ (x1 x2 x3 x4 x5 x6 e : List ℕ) (at : ℕ) (h : at + length (x1 ++ x2 ++ x3 ++ x4 ++ x5 ++ x6) ≤ length e) where
   w5 : at + length (x1 ++ x2 ++ x3 ++ x4 ++ x5) ≤ length e

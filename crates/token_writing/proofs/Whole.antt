@@ -6,10 +6,10 @@ use native.Mathlib.Omega.{arith}
 use borrow.Author.Tests.{le-leb, lt-leb}
 use lib.ListN.{length, length-append}
 use Rattle.basis.specs.Basis.{Written}
-use Rattle.heads.proofs.HeadLengths.{head-one}
+use Rattle.cbor_heads.proofs.HeadLengths.{head-one}
 use Rattle.token.specs.Tokens.{tokenBytes}
-use Rattle.writing.specs.Placing.{Placed}
-use Rattle.writing.proofs.PlacingLaws.{placed-front, placed-fits, placed-then, head-long, shorter}
+use Rattle.cbor_writing.specs.Placing.{Placed}
+use Rattle.cbor_writing.proofs.PlacingLaws.{placed-front, placed-fits, placed-then, head-long, shorter}
 use Rattle.token_writing.specs.Halves.{frontBytes, backBytes, tokenLength}
 
 module _ (n : ℕ) (cs c r t k i : List ℕ) where

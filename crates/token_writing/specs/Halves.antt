@@ -2,9 +2,9 @@
 use mathlib.Core.List.{List, _++_}
 use Prim.Native.Nat.{ℕ, _+_}
 use lib.ListN.{length}
-use Rattle.heads.specs.Heads.{head}
-use Rattle.cbor.specs.Strings.{string}
-use Rattle.keys.specs.Maps.{text}
+use Rattle.cbor_heads.specs.Heads.{head}
+use Rattle.cbor_strings.specs.Strings.{string}
+use Rattle.cbor_keys.specs.Maps.{text}
 use Rattle.basis.specs.Basis.{ascii}
 
 -- c and r

@@ -7,7 +7,7 @@ ghost use lib.ListN.{length};
 ghost use Rattle.basis.specs.Basis.{Written};
 ghost use Rattle.token.specs.Tokens.{tokenBytes};
 ghost use Rattle.token.specs.Writing.{freshBytes};
-ghost use Rattle.writing.specs.Placing.{Placed};
+ghost use Rattle.cbor_writing.specs.Placing.{Placed};
 ghost use Rattle.token_writing.specs.Halves.{frontBytes, backBytes, tokenLength};
 
 // The sum, or the largest number where it would wrap.
@@ -31,8 +31,8 @@ fn token_length(
 ) -> usize
     ensures { λ r. ⌜ r ≡ min (tokenLength count caveats scope tag kid tid) 0xffffffffffffffff ⌝ }
 {
-    let heads = writing::head_length(count) + writing::head_length(tag as u64);
-    let names = writing::head_length(kid as u64) + writing::head_length(tid as u64);
+    let heads = cbor_writing::head_length(count) + cbor_writing::head_length(tag as u64);
+    let names = cbor_writing::head_length(kid as u64) + cbor_writing::head_length(tid as u64);
     let n = sum(18 + heads + names, caveats);
     sum(sum(sum(sum(n, scope), tag), kid), tid)
 }
@@ -42,12 +42,12 @@ fn put_front(room: &mut [u8], count: u64, caveats: &[u8], caveat: &[u8], scope: 
     requires { ⌜ length (frontBytes count (now caveats) (now caveat) (now scope)) ≤ length (now room) ⌝ }
     ensures { λ r. ⌜ Placed (frontBytes count (now (caveats .entry)) (now (caveat .entry)) (now (scope .entry))) (now (room .entry)) 0 r (now (room .exit)) ⌝ }
 {
-    let a = writing::put_at(room, 0, b"\xa6\x61c");
-    let b = writing::put_head(room, a, 4, count);
-    let c = writing::put_at(room, b, caveats);
-    let d = writing::put_at(room, c, caveat);
-    let e = writing::put_at(room, d, b"\x61r");
-    writing::put_at(room, e, scope)
+    let a = cbor_writing::put_at(room, 0, b"\xa6\x61c");
+    let b = cbor_writing::put_head(room, a, 4, count);
+    let c = cbor_writing::put_at(room, b, caveats);
+    let d = cbor_writing::put_at(room, c, caveat);
+    let e = cbor_writing::put_at(room, d, b"\x61r");
+    cbor_writing::put_at(room, e, scope)
 }
 
 // s, v, kid and tid.
@@ -55,12 +55,12 @@ fn put_back(room: &mut [u8], at: usize, tag: &[u8], kid: &[u8], tid: &[u8]) -> u
     requires { ⌜ at + length (backBytes (now tag) (now kid) (now tid)) ≤ length (now room) ⌝ }
     ensures { λ r. ⌜ Placed (backBytes (now (tag .entry)) (now (kid .entry)) (now (tid .entry))) (now (room .entry)) at r (now (room .exit)) ⌝ }
 {
-    let a = writing::put_at(room, at, b"\x61s");
-    let b = writing::put_string(room, a, 2, tag);
-    let c = writing::put_at(room, b, b"\x61v\x01\x63kid");
-    let d = writing::put_string(room, c, 3, kid);
-    let e = writing::put_at(room, d, b"\x63tid");
-    writing::put_string(room, e, 3, tid)
+    let a = cbor_writing::put_at(room, at, b"\x61s");
+    let b = cbor_writing::put_string(room, a, 2, tag);
+    let c = cbor_writing::put_at(room, b, b"\x61v\x01\x63kid");
+    let d = cbor_writing::put_string(room, c, 3, kid);
+    let e = cbor_writing::put_at(room, d, b"\x63tid");
+    cbor_writing::put_string(room, e, 3, tid)
 }
 
 // A token around its parts, with `count` caveats: those of `caveats`, and behind them `caveat`. It answers

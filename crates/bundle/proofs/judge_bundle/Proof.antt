@@ -5,7 +5,7 @@ use Rattle.bundle.proofs.judge_bundle.Tie as tie
 use Rattle.bundle.proofs.judge_bundle.Reads as reads
 use Rattle.bundle.proofs.judge_bundle.Lts as lts
 use Rattle.bundle.proofs.walk.Reads as walk-reads
-use Rattle.writing.proofs.put_at.Reads as put-at-reads
+use Rattle.cbor_writing.proofs.put_at.Reads as put-at-reads
 
 returns : tie.Need-returns
 returns c = too-short _ _ (c .if1 .taken)

@@ -1,5 +1,5 @@
 use mathlib.Core.List.{[], _∷_}
-use Rattle.writing.proofs.PlacingLaws.{shorter, placed-fits, placed-then}
+use Rattle.cbor_writing.proofs.PlacingLaws.{shorter, placed-fits, placed-then}
 use Rattle.bundle.specs.Lines.{wordsOf, line}
 use borrow.Author.Needs.{needs}
 use Rattle.bundle.proofs.put_line.Statement.{statement}
@@ -7,7 +7,7 @@ use Rattle.bundle.proofs.put_line.Tie as tie
 use Rattle.bundle.proofs.put_line.Reads as reads
 use Rattle.bundle.proofs.put_line.Lts as lts
 use Rattle.bundle.proofs.put_words.Reads as put-words-reads
-use Rattle.writing.proofs.put_at.Reads as put-at-reads
+use Rattle.cbor_writing.proofs.put_at.Reads as put-at-reads
 
 put-words-requires : tie.Need-put-words-requires
 unfolding line

@@ -7,7 +7,7 @@ use Rattle.bundle.proofs.put_name.Reads as reads
 use Rattle.bundle.proofs.put_name.Lts as lts
 use Rattle.answers.proofs.name.Reads as name-reads
 use Rattle.answers.proofs.answer_of.Reads as answer-of-reads
-use Rattle.writing.proofs.put_at.Reads as put-at-reads
+use Rattle.cbor_writing.proofs.put_at.Reads as put-at-reads
 
 answer-of-requires : tie.Need-answer-of-requires
 answer-of-requires c κs = search needs

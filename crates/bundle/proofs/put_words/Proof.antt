@@ -1,5 +1,5 @@
 use Rattle.basis.specs.Basis.{ascii}
-use Rattle.writing.proofs.PlacingLaws.{shorter, placed-fits, placed-then}
+use Rattle.cbor_writing.proofs.PlacingLaws.{shorter, placed-fits, placed-then}
 use Rattle.answers.specs.Answers.{answerOf}
 use Rattle.bundle.specs.Lines.{nameIn}
 use Rattle.bundle.proofs.Putting.{allows, denies}
@@ -9,7 +9,7 @@ use Rattle.bundle.proofs.put_words.Tie as tie
 use Rattle.bundle.proofs.put_words.Reads as reads
 use Rattle.bundle.proofs.put_words.Lts as lts
 use Rattle.bundle.proofs.put_name.Reads as put-name-reads
-use Rattle.writing.proofs.put_at.Reads as put-at-reads
+use Rattle.cbor_writing.proofs.put_at.Reads as put-at-reads
 
 slice-aggregate-put-at : tie.Need-slice-aggregate-put-at
 slice-aggregate-put-at c = search needs

@@ -9,9 +9,9 @@ use Rattle.bundle.proofs.walk.Reads as reads
 use Rattle.bundle.proofs.walk.Lts as lts
 use Rattle.basis.proofs.part.Reads as part-reads
 use Rattle.bundle.proofs.put_line.Reads as put-line-reads
-use Rattle.judging.proofs.verify.Reads as verify-reads
+use Rattle.verify.proofs.verify.Reads as verify-reads
 use Rattle.records.proofs.record_at.Reads as record-at-reads
-use Rattle.writing.proofs.put_at.Reads as put-at-reads
+use Rattle.cbor_writing.proofs.put_at.Reads as put-at-reads
 
 abbrev Inv-loop : tie.InvT-loop
 Inv-loop input room₀ p₀ n₀ t₀ t-end₀ q₀ q-end₀ t15 t16 room p n t t-end q q-end = Going input room₀ room p n t t-end q q-end

@@ -12,9 +12,9 @@ use Rattle.keyed_hash.proofs.tree.Reads as tree
 use Rattle.keyed_hash.proofs.tree.Kinds as tree-kinds
 use Rattle.keyed_hash.proofs.+tree.Lts-tree as tree-lts
 use Rattle.basis.proofs.least.Reads as least-reads
-use Rattle.chunking.proofs.chunk.Reads as chunk-reads
+use Rattle.hash_chunks.proofs.chunk.Reads as chunk-reads
 use Rattle.keyed_hash.proofs.chunks.Reads as chunks-reads
-use Rattle.chunking.proofs.parent.Reads as parent-reads
+use Rattle.hash_chunks.proofs.parent.Reads as parent-reads
 use Rattle.keyed_hash.proofs.+tree.{statement}
 use Rattle.keyed_hash.proofs.+tree.Tie.{close}
 

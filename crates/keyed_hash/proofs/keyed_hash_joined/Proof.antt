@@ -3,7 +3,7 @@ use mathlib.Core.List.{List, _++_}
 use Prim.Native.Nat.{ℕ}
 use native.Mathlib.Omega.{arith}
 use lib.ListN.{length-append}
-use Rattle.chunking.specs.Chunks.{rootFlag}
+use Rattle.hash_chunks.specs.Chunks.{rootFlag}
 use Rattle.keyed_hash.specs.Tree.{bytesOf, treeOf}
 use Rattle.keyed_hash.proofs.Hashing.{bad-key, long-head, long-body, taken}
 use borrow.Author.Needs.{needs}
@@ -12,7 +12,7 @@ use Rattle.keyed_hash.proofs.keyed_hash_joined.Tie as tie
 use Rattle.keyed_hash.proofs.keyed_hash_joined.Reads as reads
 use Rattle.keyed_hash.proofs.keyed_hash_joined.Lts as lts
 use Rattle.answers.proofs.number.Reads as number-reads
-use Rattle.chunking.proofs.key_words.Reads as key-words-reads
+use Rattle.hash_chunks.proofs.key_words.Reads as key-words-reads
 use Rattle.keyed_hash.proofs.refused.Reads as refused-reads
 use Rattle.keyed_hash.proofs.spread.Reads as spread-reads
 use Rattle.keyed_hash.proofs.tree.Reads as tree-reads

@@ -1,12 +1,12 @@
 use mathlib.Core.Path.{ap, _∙_}
-use Rattle.base64url.specs.Reading.{bytesOf, leftOf}
+use Rattle.text_reading.specs.Reading.{bytesOf, leftOf}
 use Rattle.probe.specs.Probes.{decodedProbe}
 use borrow.Author.Needs.{needs}
 use Rattle.probe.proofs.probe_base64url_decode.Statement.{statement}
 use Rattle.probe.proofs.probe_base64url_decode.Tie as tie
 use Rattle.probe.proofs.probe_base64url_decode.Reads as reads
 use Rattle.probe.proofs.probe_base64url_decode.Lts as lts
-use Rattle.base64url.proofs.decode.Reads as decode-reads
+use Rattle.text_reading.proofs.decode.Reads as decode-reads
 use Rattle.probe.proofs.decoded_probe.Reads as decoded-probe-reads
 
 decode-requires : tie.Need-decode-requires

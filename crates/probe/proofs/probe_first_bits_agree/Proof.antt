@@ -5,7 +5,7 @@ use Rattle.probe.proofs.probe_first_bits_agree.Statement.{statement}
 use Rattle.probe.proofs.probe_first_bits_agree.Tie as tie
 use Rattle.probe.proofs.probe_first_bits_agree.Reads as reads
 use Rattle.probe.proofs.probe_first_bits_agree.Lts as lts
-use Rattle.cidr.proofs.first_bits_agree.Reads as first-bits-agree-reads
+use Rattle.token_cidr.proofs.first_bits_agree.Reads as first-bits-agree-reads
 use Rattle.probe.proofs.bool_probe.Reads as bool-probe-reads
 
 first-bits-agree-requires : tie.Need-first-bits-agree-requires

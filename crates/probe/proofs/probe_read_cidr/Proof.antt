@@ -5,7 +5,7 @@ use Rattle.probe.proofs.probe_read_cidr.Statement.{statement}
 use Rattle.probe.proofs.probe_read_cidr.Tie as tie
 use Rattle.probe.proofs.probe_read_cidr.Reads as reads
 use Rattle.probe.proofs.probe_read_cidr.Lts as lts
-use Rattle.cidr.proofs.read_cidr.Reads as read-cidr-reads
+use Rattle.token_cidr.proofs.read_cidr.Reads as read-cidr-reads
 use Rattle.probe.proofs.cidr_probe.Reads as cidr-probe-reads
 
 read-cidr-requires : tie.Need-read-cidr-requires

@@ -5,7 +5,7 @@ use Rattle.probe.proofs.probe_read_head.Statement.{statement}
 use Rattle.probe.proofs.probe_read_head.Tie as tie
 use Rattle.probe.proofs.probe_read_head.Reads as reads
 use Rattle.probe.proofs.probe_read_head.Lts as lts
-use Rattle.heads.proofs.read_head.Reads as read-head-reads
+use Rattle.cbor_heads.proofs.read_head.Reads as read-head-reads
 use Rattle.probe.proofs.head_probe.Reads as head-probe-reads
 
 read-head-requires : tie.Need-read-head-requires

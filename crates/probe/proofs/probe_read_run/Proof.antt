@@ -5,7 +5,7 @@ use Rattle.probe.proofs.probe_read_run.Statement.{statement}
 use Rattle.probe.proofs.probe_read_run.Tie as tie
 use Rattle.probe.proofs.probe_read_run.Reads as reads
 use Rattle.probe.proofs.probe_read_run.Lts as lts
-use Rattle.cbor.proofs.read_run.Reads as read-run-reads
+use Rattle.cbor_strings.proofs.read_run.Reads as read-run-reads
 use Rattle.probe.proofs.span_probe.Reads as span-probe-reads
 
 read-run-requires : tie.Need-read-run-requires

@@ -1,12 +1,12 @@
 use mathlib.Core.Path.{ap, _∙_}
-use Rattle.cbor.specs.Strings.{readString}
+use Rattle.cbor_strings.specs.Strings.{readString}
 use Rattle.probe.specs.Probes.{spanProbe}
 use borrow.Author.Needs.{needs}
 use Rattle.probe.proofs.probe_read_string.Statement.{statement}
 use Rattle.probe.proofs.probe_read_string.Tie as tie
 use Rattle.probe.proofs.probe_read_string.Reads as reads
 use Rattle.probe.proofs.probe_read_string.Lts as lts
-use Rattle.cbor.proofs.read_string.Reads as read-string-reads
+use Rattle.cbor_strings.proofs.read_string.Reads as read-string-reads
 use Rattle.probe.proofs.class_at.Reads as class-at-reads
 use Rattle.probe.proofs.span_probe.Reads as span-probe-reads
 

@@ -6,7 +6,7 @@ use Rattle.probe.proofs.probe_read_value.Tie as tie
 use Rattle.probe.proofs.probe_read_value.Reads as reads
 use Rattle.probe.proofs.probe_read_value.Lts as lts
 use Rattle.probe.proofs.item_probe.Reads as item-probe-reads
-use Rattle.values.proofs.read_value.Reads as read-value-reads
+use Rattle.cbor_values.proofs.read_value.Reads as read-value-reads
 
 read-value-requires : tie.Need-read-value-requires
 read-value-requires c κs = search needs

@@ -5,7 +5,7 @@ use Rattle.probe_parts.proofs.probe_read_caveat.Statement.{statement}
 use Rattle.probe_parts.proofs.probe_read_caveat.Tie as tie
 use Rattle.probe_parts.proofs.probe_read_caveat.Reads as reads
 use Rattle.probe_parts.proofs.probe_read_caveat.Lts as lts
-use Rattle.caveat.proofs.read_caveat.Reads as read-caveat-reads
+use Rattle.token_caveat.proofs.read_caveat.Reads as read-caveat-reads
 use Rattle.probe_parts.proofs.caveat_probe.Reads as caveat-probe-reads
 
 read-caveat-requires : tie.Need-read-caveat-requires

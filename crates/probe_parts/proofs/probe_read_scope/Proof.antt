@@ -6,7 +6,7 @@ use Rattle.probe_parts.proofs.probe_read_scope.Tie as tie
 use Rattle.probe_parts.proofs.probe_read_scope.Reads as reads
 use Rattle.probe_parts.proofs.probe_read_scope.Lts as lts
 use Rattle.probe_parts.proofs.scope_probe.Reads as scope-probe-reads
-use Rattle.scope.proofs.read_scope.Reads as read-scope-reads
+use Rattle.token_scope.proofs.read_scope.Reads as read-scope-reads
 
 read-scope-requires : tie.Need-read-scope-requires
 read-scope-requires c κs = search needs

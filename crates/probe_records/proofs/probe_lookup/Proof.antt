@@ -5,7 +5,7 @@ use Rattle.probe_records.proofs.probe_lookup.Tie as tie
 use Rattle.probe_records.proofs.probe_lookup.Reads as reads
 use Rattle.probe_records.proofs.probe_lookup.Lts as lts
 use Rattle.basis.proofs.put.Reads as put-reads
-use Rattle.tables.proofs.lookup.Reads as lookup-reads
+use Rattle.records_table.proofs.lookup.Reads as lookup-reads
 
 lookup-requires : tie.Need-lookup-requires
 lookup-requires c κs = search needs

@@ -6,7 +6,7 @@ use Rattle.probe_records.proofs.probe_read_request.Tie as tie
 use Rattle.probe_records.proofs.probe_read_request.Reads as reads
 use Rattle.probe_records.proofs.probe_read_request.Lts as lts
 use Rattle.probe_records.proofs.request_probe.Reads as request-probe-reads
-use Rattle.requests.proofs.read_request.Reads as read-request-reads
+use Rattle.records_request.proofs.read_request.Reads as read-request-reads
 
 read-request-requires : tie.Need-read-request-requires
 read-request-requires c κs = search needs

@@ -6,7 +6,7 @@ use Rattle.probe_records.proofs.probe_table_ok.Tie as tie
 use Rattle.probe_records.proofs.probe_table_ok.Reads as reads
 use Rattle.probe_records.proofs.probe_table_ok.Lts as lts
 use Rattle.probe_records.proofs.bit_of.Reads as bit-of-reads
-use Rattle.tables.proofs.table_ok.Reads as table-ok-reads
+use Rattle.records_table.proofs.table_ok.Reads as table-ok-reads
 
 table-ok-requires : tie.Need-table-ok-requires
 table-ok-requires c κs = search needs

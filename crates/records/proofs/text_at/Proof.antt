@@ -7,7 +7,7 @@ use Rattle.records.proofs.text_at.Statement.{statement}
 use Rattle.records.proofs.text_at.Tie as tie
 use Rattle.records.proofs.text_at.Reads as reads
 use Rattle.records.proofs.text_at.Lts as lts
-use Rattle.cbor.proofs.content.Reads as content-reads
+use Rattle.cbor_strings.proofs.content.Reads as content-reads
 use Rattle.records.proofs.number_at.Reads as number-at-reads
 use Rattle.records.proofs.run_at.Reads as run-at-reads
 

@@ -1,6 +1,6 @@
 use mathlib.Core.Path.{ap, ap₂, _∙_}
-use Rattle.comparing.specs.Fitting.{fitsOf}
-use Rattle.comparing.specs.Comparing.{audienceIs, digestIs}
+use Rattle.rules_compare.specs.Fitting.{fitsOf}
+use Rattle.rules_compare.specs.Comparing.{audienceIs, digestIs}
 use Rattle.rules.specs.Judging.{caveatHeld, amnesiaHeld}
 use borrow.Author.Needs.{needs}
 use Rattle.rules.proofs.caveat_holds.Statement.{statement}
@@ -9,13 +9,13 @@ use Rattle.rules.proofs.caveat_holds.Reads as reads
 use Rattle.rules.proofs.caveat_holds.Lts as lts
 use Rattle.basis.proofs.part.Reads as part-reads
 use Rattle.basis.proofs.same.Reads as same-reads
-use Rattle.comparing.proofs.audience_is.Reads as audience-is-reads
-use Rattle.comparing.proofs.digest_is.Reads as digest-is-reads
-use Rattle.comparing.proofs.fits.Reads as fits-reads
-use Rattle.comparing.proofs.method_in.Reads as method-in-reads
-use Rattle.comparing.proofs.within_skew.Reads as within-skew-reads
-use Rattle.comparing.proofs.peer_agrees.Reads as peer-agrees-reads
-use Rattle.comparing.proofs.rate_holds.Reads as rate-holds-reads
+use Rattle.rules_compare.proofs.audience_is.Reads as audience-is-reads
+use Rattle.rules_compare.proofs.digest_is.Reads as digest-is-reads
+use Rattle.rules_compare.proofs.fits.Reads as fits-reads
+use Rattle.rules_compare.proofs.method_in.Reads as method-in-reads
+use Rattle.rules_compare.proofs.within_skew.Reads as within-skew-reads
+use Rattle.rules_compare.proofs.peer_agrees.Reads as peer-agrees-reads
+use Rattle.rules_compare.proofs.rate_holds.Reads as rate-holds-reads
 
 enum-known-caveat : tie.Need-enum-known-caveat
 enum-known-caveat c = search needs

@@ -5,9 +5,9 @@ use Rattle.rules.proofs.scope_answer.Statement.{statement}
 use Rattle.rules.proofs.scope_answer.Tie as tie
 use Rattle.rules.proofs.scope_answer.Reads as reads
 use Rattle.rules.proofs.scope_answer.Lts as lts
-use Rattle.comparing.proofs.limit_holds.Reads as limit-holds-reads
-use Rattle.comparing.proofs.method_in.Reads as method-in-reads
-use Rattle.comparing.proofs.prefix_fits.Reads as prefix-fits-reads
+use Rattle.rules_compare.proofs.limit_holds.Reads as limit-holds-reads
+use Rattle.rules_compare.proofs.method_in.Reads as method-in-reads
+use Rattle.rules_compare.proofs.prefix_fits.Reads as prefix-fits-reads
 
 method-in-requires : tie.Need-method-in-requires
 method-in-requires c κs = search needs

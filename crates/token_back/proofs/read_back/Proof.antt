@@ -6,7 +6,7 @@ use Rattle.token_back.proofs.read_back.Statement.{statement}
 use Rattle.token_back.proofs.read_back.Tie as tie
 use Rattle.token_back.proofs.read_back.Reads as reads
 use Rattle.token_back.proofs.read_back.Lts as lts
-use Rattle.keys.proofs.name_field.Reads as name-field-reads
+use Rattle.cbor_keys.proofs.name_field.Reads as name-field-reads
 use Rattle.token_back.proofs.tag_field.Reads as tag-field-reads
 use Rattle.token_back.proofs.version_field.Reads as version-field-reads
 

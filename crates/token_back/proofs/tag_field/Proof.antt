@@ -5,8 +5,8 @@ use Rattle.token_back.proofs.tag_field.Statement.{statement}
 use Rattle.token_back.proofs.tag_field.Tie as tie
 use Rattle.token_back.proofs.tag_field.Reads as reads
 use Rattle.token_back.proofs.tag_field.Lts as lts
-use Rattle.cbor.proofs.read_run.Reads as read-run-reads
-use Rattle.keys.proofs.wanted_key.Reads as wanted-key-reads
+use Rattle.cbor_strings.proofs.read_run.Reads as read-run-reads
+use Rattle.cbor_keys.proofs.wanted_key.Reads as wanted-key-reads
 
 wanted-key-requires : tie.Need-wanted-key-requires
 wanted-key-requires c κs = search needs

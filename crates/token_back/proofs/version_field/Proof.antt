@@ -6,8 +6,8 @@ use Rattle.token_back.proofs.version_field.Statement.{statement}
 use Rattle.token_back.proofs.version_field.Tie as tie
 use Rattle.token_back.proofs.version_field.Reads as reads
 use Rattle.token_back.proofs.version_field.Lts as lts
-use Rattle.heads.proofs.read_count.Reads as read-count-reads
-use Rattle.keys.proofs.wanted_key.Reads as wanted-key-reads
+use Rattle.cbor_heads.proofs.read_count.Reads as read-count-reads
+use Rattle.cbor_keys.proofs.wanted_key.Reads as wanted-key-reads
 
 wanted-key-requires : tie.Need-wanted-key-requires
 wanted-key-requires c κs = search needs

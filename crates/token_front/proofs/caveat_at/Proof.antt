@@ -1,13 +1,13 @@
 use mathlib.Core.Path.{ap, _∙_}
 use borrow.Author.Needs.{needs}
-use Rattle.caveat.specs.Reading.{caveatOf}
+use Rattle.token_caveat.specs.Reading.{caveatOf}
 use Rattle.basis.proofs.Parts.{part-from}
 use Rattle.token_front.proofs.caveat_at.Statement.{statement}
 use Rattle.token_front.proofs.caveat_at.Tie as tie
 use Rattle.token_front.proofs.caveat_at.Reads as reads
 use Rattle.token_front.proofs.caveat_at.Lts as lts
 use Rattle.basis.proofs.least.Reads as least-reads
-use Rattle.caveat.proofs.read_caveat.Reads as read-caveat-reads
+use Rattle.token_caveat.proofs.read_caveat.Reads as read-caveat-reads
 
 least-requires : tie.Need-least-requires
 least-requires c κs = search needs

@@ -1,8 +1,8 @@
 use mathlib.Core.Path.{_≡_, sym, _∙_}
 use native.Mathlib.Omega.{arith}
 use borrow.Author.Needs.{needs}
-use Rattle.values.specs.Reading.{itemsOf}
-use Rattle.values.proofs.ItemReads.{one-bad, one-more}
+use Rattle.cbor_values.specs.Reading.{itemsOf}
+use Rattle.cbor_values.proofs.ItemReads.{one-bad, one-more}
 use Rattle.token_front.specs.Front.{caveatEnd}
 use Rattle.token_front.proofs.caveats_end.Statement.{statement}
 use Rattle.token_front.proofs.caveats_end.Tie as tie

@@ -5,8 +5,8 @@ use Rattle.token_front.proofs.caveats_then.Statement.{statement}
 use Rattle.token_front.proofs.caveats_then.Tie as tie
 use Rattle.token_front.proofs.caveats_then.Reads as reads
 use Rattle.token_front.proofs.caveats_then.Lts as lts
-use Rattle.keys.proofs.wanted_key.Reads as wanted-key-reads
-use Rattle.scope.proofs.read_scope.Reads as read-scope-reads
+use Rattle.cbor_keys.proofs.wanted_key.Reads as wanted-key-reads
+use Rattle.token_scope.proofs.read_scope.Reads as read-scope-reads
 use Rattle.token_front.proofs.caveats_end.Reads as caveats-end-reads
 
 caveats-end-requires : tie.Need-caveats-end-requires

@@ -5,8 +5,8 @@ use Rattle.token_front.proofs.read_front.Statement.{statement}
 use Rattle.token_front.proofs.read_front.Tie as tie
 use Rattle.token_front.proofs.read_front.Reads as reads
 use Rattle.token_front.proofs.read_front.Lts as lts
-use Rattle.heads.proofs.read_count.Reads as read-count-reads
-use Rattle.keys.proofs.wanted_key.Reads as wanted-key-reads
+use Rattle.cbor_heads.proofs.read_count.Reads as read-count-reads
+use Rattle.cbor_keys.proofs.wanted_key.Reads as wanted-key-reads
 use Rattle.token_front.proofs.caveats_then.Reads as caveats-then-reads
 
 read-count-requires : tie.Need-read-count-requires

@@ -1,8 +1,8 @@
 use mathlib.Core.List.{_++_}
 use Rattle.basis.specs.Basis.{ascii}
-use Rattle.heads.specs.Heads.{head}
-use Rattle.cbor.specs.Strings.{string}
-use Rattle.keys.specs.Maps.{text}
+use Rattle.cbor_heads.specs.Heads.{head}
+use Rattle.cbor_strings.specs.Strings.{string}
+use Rattle.cbor_keys.specs.Maps.{text}
 use Rattle.token_writing.specs.Halves.{backBytes}
 use Rattle.token_writing.proofs.Pieces.{fits1, fits2, fits3, fits4, fits5, fits6, all-placed}
 use borrow.Author.Needs.{needs}
@@ -10,8 +10,8 @@ use Rattle.token_writing.proofs.put_back.Statement.{statement}
 use Rattle.token_writing.proofs.put_back.Tie as tie
 use Rattle.token_writing.proofs.put_back.Reads as reads
 use Rattle.token_writing.proofs.put_back.Lts as lts
-use Rattle.writing.proofs.put_at.Reads as put-at-reads
-use Rattle.writing.proofs.put_string.Reads as put-string-reads
+use Rattle.cbor_writing.proofs.put_at.Reads as put-at-reads
+use Rattle.cbor_writing.proofs.put_string.Reads as put-string-reads
 
 slice-aggregate-put-at : tie.Need-slice-aggregate-put-at
 slice-aggregate-put-at c = search needs

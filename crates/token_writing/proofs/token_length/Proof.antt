@@ -1,12 +1,12 @@
 use native.Mathlib.Omega.{arith}
-use Rattle.heads.proofs.HeadLengths.{head-nine}
+use Rattle.cbor_heads.proofs.HeadLengths.{head-nine}
 use borrow.Author.Needs.{needs}
 use Rattle.token_writing.proofs.token_length.Statement.{statement}
 use Rattle.token_writing.proofs.token_length.Tie as tie
 use Rattle.token_writing.proofs.token_length.Reads as reads
 use Rattle.token_writing.proofs.token_length.Lts as lts
 use Rattle.token_writing.proofs.sum.Reads as sum-reads
-use Rattle.writing.proofs.head_length.Reads as head-length-reads
+use Rattle.cbor_writing.proofs.head_length.Reads as head-length-reads
 
 head-length-requires : tie.Need-head-length-requires
 head-length-requires c κs = search needs

@@ -1,0 +1,20 @@
+-- Widths, heads and counts have one reading each.
+use mathlib.Core.Path.{_≡_}
+use mathlib.Core.List.{List}
+use Prim.Native.Nat.{ℕ}
+use Rattle.basis.proofs.OneAnswer.{told}
+use Rattle.cbor_heads.specs.Heads.{widthOf, readHead}
+use Rattle.cbor_heads.specs.Counts.{readCount}
+use Rattle.cbor_heads.specs.declared.Width.{Width}
+use Rattle.cbor_heads.specs.declared.Head.{Head}
+use Rattle.cbor_heads.specs.declared.Count.{Count}
+
+pub width-of-one-answer : (low : ℕ) {r s : Width} → r ≡ widthOf low → s ≡ widthOf low → r ≡ s
+width-of-one-answer low p q = told p q
+
+pub read-head-one-answer : (bytes : List ℕ) (at : ℕ) {r s : Head} → r ≡ readHead bytes at → s ≡ readHead bytes at → r ≡ s
+read-head-one-answer bytes at p q = told p q
+
+pub read-count-one-answer : (bytes : List ℕ) (at major least most above : ℕ) {r s : Count} → r ≡ readCount bytes at major least most above
+    → s ≡ readCount bytes at major least most above → r ≡ s
+read-count-one-answer bytes at major least most above p q = told p q

@@ -1,0 +1,35 @@
+use mathlib.Core.Path.{refl}
+use Rattle.basis.proofs.All.{all}
+use Rattle.cbor_strings.specs.Strings.{kindOf, isName, isPrintable, isUpper, isHex}
+use Rattle.cbor_strings.proofs.Classes.{stretch}
+use borrow.Author.Needs.{needs}
+use Rattle.cbor_strings.proofs.kind.Statement.{statement}
+use Rattle.cbor_strings.proofs.kind.Tie as tie
+use Rattle.cbor_strings.proofs.kind.Reads as reads
+use Rattle.cbor_strings.proofs.kind.Lts as lts
+use Rattle.cbor_strings.proofs.upper_kind.Reads as upper-kind-reads
+
+upper-kind-requires : tie.Need-upper-kind-requires
+upper-kind-requires c κs = search needs
+
+returns : tie.Need-returns
+returns c = search needs
+
+returns-2 : tie.Need-returns-2
+unfolding all kindOf isName isPrintable isUpper isHex
+returns-2 c = stretch 97 103 4 refl _ (c .before .if1 .left) (c .if2 .taken)
+
+returns-3 : tie.Need-returns-3
+unfolding all kindOf isName isPrintable isUpper isHex
+returns-3 c = stretch 103 123 2 refl _ (c .before .if2 .left) (c .if3 .taken)
+
+returns-4 : tie.Need-returns-4
+unfolding all kindOf isName isPrintable isUpper isHex
+returns-4 c = stretch 123 127 1 refl _ (c .before .if3 .left) (c .if4 .taken)
+
+returns-5 : tie.Need-returns-5
+unfolding all kindOf isName isPrintable isUpper isHex
+returns-5 c = stretch 127 256 0 refl _ (c .if4 .left) (c .before .before .before .before .fits .c .fits)
+
+pub kind-spec : {M : Type 1} → statement M
+kind-spec = tie.close (tie.spec upper-kind-requires returns returns-2 returns-3 returns-4 returns-5)

@@ -1,0 +1,201 @@
+// Strings of deterministic CBOR, by their range and class of content. A reader takes a slice of any length and a
+// place in it; a defect carries document 01's number and the place of the item at fault.
+use cbor_heads::Head;
+ghost use mathlib.Core.Path.{_≡_};
+ghost use Prim.Native.Nat.{_<_, min, max};
+ghost use lib.ListN.{length};
+ghost use Rattle.cbor_strings.specs.Strings.{within, allOf, kindOf, kindsFrom, contentOf, readRun, readString};
+
+// What a string may hold.
+pub enum Class {
+    Name,
+    Printable,
+    Path,
+    Upper,
+    Hex,
+}
+
+// A string's content, or what is wrong with it: document 01's number and the place.
+pub enum Span {
+    Of { from: usize, to: usize },
+    Bad { kind: u32, at: usize },
+}
+
+// The kind of a character before "A".
+fn sign_kind(c: u8) -> u8
+    requires { ⌜ c < 65 ⌝ }
+    ensures { λ r. ⌜ r ≡ kindOf c ⌝ }
+{
+    if c < 0x21 {
+        return 0;
+    }
+    if c < b'-' {
+        return 1;
+    }
+    if c < b'/' {
+        return 2;
+    }
+    if c < b'0' {
+        return 1;
+    }
+    if c < 0x3a {
+        return 4;
+    }
+    1
+}
+
+// The kind of a character before "a".
+fn upper_kind(c: u8) -> u8
+    requires { ⌜ c < 97 ⌝ }
+    ensures { λ r. ⌜ r ≡ kindOf c ⌝ }
+{
+    if c < b'A' {
+        return sign_kind(c);
+    }
+    if c < 0x5b {
+        return 3;
+    }
+    if c < b'_' {
+        return 1;
+    }
+    if c == b'_' {
+        return 2;
+    }
+    1
+}
+
+// The kind of each character: 4 a hex digit, 3 a letter A-Z, 2 another character of a name, 1 another
+// printable one, 0 none of these. Tests and no table: for the kinds that a loop asks for, few of them are left.
+fn kind(c: u8) -> u8
+    ensures { λ r. ⌜ r ≡ kindOf c ⌝ }
+{
+    if c < b'a' {
+        return upper_kind(c);
+    }
+    if c < b'g' {
+        return 4;
+    }
+    if c < 0x7b {
+        return 2;
+    }
+    if c < 0x7f {
+        return 1;
+    }
+    0
+}
+
+// Whether every character has a kind from low to high.
+fn all_from(s: &[u8], low: u8, high: u8) -> bool
+    ensures { λ r. ⌜ r ≡ allOf (kindsFrom low high) (now (s .entry)) ⌝ }
+{
+    let mut i: usize = 0;
+    while i < s.len() {
+        let k = kind(s[i]);
+        if k < low {
+            return false;
+        }
+        if high < k {
+            return false;
+        }
+        i += 1;
+    }
+    true
+}
+
+fn lower(a: u8, b: u8) -> u8
+    ensures { λ r. ⌜ r ≡ min a b ⌝ }
+{
+    if a < b { a } else { b }
+}
+
+fn higher(a: u8, b: u8) -> u8
+    ensures { λ r. ⌜ r ≡ max a b ⌝ }
+{
+    if a < b { b } else { a }
+}
+
+// Whether every character lies from low to high. The loop has one way out, so that the compiler takes
+// many characters at a time.
+fn all_between(s: &[u8], low: u8, high: u8) -> bool
+    ensures { λ r. ⌜ r ≡ allOf (within low high) (now (s .entry)) ⌝ }
+{
+    let mut first: u8 = 255;
+    let mut last: u8 = 0;
+    let mut i: usize = 0;
+    while i < s.len() {
+        let c = s[i];
+        first = lower(c, first);
+        last = higher(c, last);
+        i += 1;
+    }
+    if first < low {
+        return false;
+    }
+    last <= high
+}
+
+pub fn content(s: &[u8], class: Class) -> bool
+    ensures { λ r. ⌜ r ≡ contentOf class (now (s .entry)) ⌝ }
+{
+    match class {
+        Class::Name => all_from(s, 2, 4),
+        Class::Printable => all_between(s, 0x21, 0x7e),
+        Class::Upper => all_from(s, 3, 3),
+        Class::Hex => all_from(s, 4, 4),
+        Class::Path => {
+            if s.len() == 0 {
+                return false;
+            }
+            if s[0] != b'/' {
+                return false;
+            }
+            all_between(s, 0x21, 0x7e)
+        }
+    }
+}
+
+// A string of the major type wanted with low to high bytes, whatever they are.
+pub fn read_run(s: &[u8], at: usize, major: u8, low: u64, high: u64) -> Span
+    ensures { λ r. ⌜ r ≡ readRun (now (s .entry)) at major low high ⌝ }
+{
+    match cbor_heads::read_head(s, at) {
+        Head::Bad { at: a } => Span::Bad { kind: 4, at: a },
+        Head::Got {
+            major: m,
+            value: n,
+            next,
+        } => {
+            if m != major {
+                return Span::Bad { kind: 4, at };
+            }
+            if n < low {
+                return Span::Bad { kind: 5, at };
+            }
+            if high < n {
+                return Span::Bad { kind: 5, at };
+            }
+            if s.len() - next < n as usize {
+                return Span::Bad { kind: 4, at };
+            }
+            Span::Of {
+                from: next,
+                to: next + n as usize,
+            }
+        }
+    }
+}
+
+// A text string with low to high bytes of the class.
+pub fn read_string(s: &[u8], at: usize, class: Class, low: u64, high: u64) -> Span
+    ensures { λ r. ⌜ r ≡ readString (now (s .entry)) at class low high ⌝ }
+{
+    match read_run(s, at, 3, low, high) {
+        Span::Bad { kind: k, at: a } => Span::Bad { kind: k, at: a },
+        Span::Of { from, to } => {
+            if content(&s[from..to], class) {
+                return Span::Of { from, to };
+            }
+            Span::Bad { kind: 4, at: from }
+        }
+    }
+}

@@ -1,0 +1,49 @@
+-- The one reading of a custom caveat's value. Document 01: "an integer of either sign, byte string, text (UTF-8 by RFC 3629),
+-- true, false, null, or arrays inside arrays, four deep at most. Array elements are any of these, in any number."
+use mathlib.Core.List.{List}
+use Prim.Native.Nat.{ℕ, zero, suc, _+_, _-_}
+use lib.ListN.{length, take, drop}
+use lib.Dec.{ltb, eqb}
+use Rattle.basis.specs.Basis.{pick}
+use Rattle.cbor_heads.specs.Heads.{readHead}
+use Rattle.cbor_heads.specs.declared.Head.{Head}
+use Rattle.cbor_heads.specs.declared.Head.the-variants.{Got, Bad as NoHead}
+use Rattle.cbor_values.specs.Utf8.{utf8}
+use Rattle.cbor_values.specs.declared.Item.{Item}
+use Rattle.cbor_values.specs.declared.Item.the-variants.{End, Bad}
+
+-- n bytes from `next` on, behind a head at `at`
+unfoldable pub runOf : List ℕ → ℕ → ℕ → ℕ → Item
+runOf s at next n = pick (ltb (length s - next) n) (Bad 4 at) (End (next + n))
+
+-- the same of text: bad content carries the first byte of the content
+unfoldable pub textOf : List ℕ → ℕ → ℕ → ℕ → Item
+textOf s at next n =
+    pick (ltb (length s - next) n) (Bad 4 at)
+    (pick (utf8 (take n (drop next s))) (End (next + n)) (Bad 4 next))
+
+-- go on where an item ends
+unfoldable pub andThen : Item → (ℕ → Item) → Item
+andThen (End next) f = f next
+andThen (Bad kind at) f = Bad kind at
+
+-- count items, each read by f
+unfoldable pub itemsOf : (ℕ → Item) → ℕ → ℕ → Item
+itemsOf f zero at = End at
+itemsOf f (suc k) at = andThen (f at) (itemsOf f k)
+
+-- by the head's major type; `array n next` is what an array of n elements gives. Of major type 7 only false, true and null are taken: 20, 21, 22
+unfoldable pub byMajor : (ℕ → ℕ → Item) → List ℕ → ℕ → Head → Item
+byMajor array s at (NoHead a) = Bad 4 a
+byMajor array s at (Got major n next) =
+    pick (ltb major 2) (End next)
+    (pick (eqb major 2) (runOf s at next n)
+    (pick (eqb major 3) (textOf s at next n)
+    (pick (eqb major 4) (array n next)
+    (pick (eqb major 7) (pick (ltb n 20) (Bad 4 at) (pick (ltb n 23) (End next) (Bad 4 at)))
+    (Bad 4 at)))))
+
+-- a value with at most so many arrays inside each other: one more is parse.bounds, once its head is good
+unfoldable pub valueOf : ℕ → List ℕ → ℕ → Item
+valueOf zero s at = byMajor (λ n next. Bad 5 at) s at (readHead s at)
+valueOf (suc d) s at = byMajor (λ n next. itemsOf (valueOf d s) n next) s at (readHead s at)

@@ -1,0 +1,56 @@
+-- What a custom caveat's value is, as a tree, and how it is written. Document 01, "Token bytes": "an integer of either sign, byte
+-- string, text (UTF-8 by RFC 3629), true, false, null, or arrays inside arrays, four deep at most".
+use mathlib.Core.Path.{_≡_}
+use mathlib.Core.Bool.{true}
+use mathlib.Core.List.{List, [], _++_}
+use Prim.Native.Nat.{ℕ, zero, suc, _<_, _≤_, _^_}
+use lib.ListN.{length}
+use Rattle.cbor_heads.specs.Heads.{head}
+use Rattle.cbor_strings.specs.Strings.{string}
+use Rattle.cbor_values.specs.Utf8.{utf8}
+
+mutual
+  -- `negative n` stands for -1 - n; `simple` is 20 for false, 21 for true, 22 for null
+  pub data Value : Type 0 where
+    number : ℕ → Value
+    negative : ℕ → Value
+    bytes : List ℕ → Value
+    text : List ℕ → Value
+    simple : ℕ → Value
+    array : Values → Value
+
+  pub data Values : Type 0 where
+    none : Values
+    more : Value → Values → Values
+
+unfoldable pub count : Values → ℕ
+count none = 0
+count (more v vs) = suc (count vs)
+
+unfoldable mutual
+  pub encode : Value → List ℕ
+  encode (number n) = head 0 n
+  encode (negative n) = head 1 n
+  encode (bytes c) = string 2 c
+  encode (text c) = string 3 c
+  encode (simple n) = head 7 n
+  encode (array vs) = head 4 (count vs) ++ encodes vs
+
+  pub encodes : Values → List ℕ
+  encodes none = []
+  encodes (more v vs) = encode v ++ encodes vs
+
+-- a tree within limits, with at most so many arrays inside each other; numbers, lengths and counts have 64 bits
+unfoldable mutual
+  pub Good : Value → ℕ → Type 0
+  Good (number n) d = n < 2 ^ 64
+  Good (negative n) d = n < 2 ^ 64
+  Good (bytes c) d = length c < 2 ^ 64
+  Good (text c) d = (length c < 2 ^ 64) × (utf8 c ≡ true)
+  Good (simple n) d = (20 ≤ n) × (n < 23)
+  Good (array vs) zero = ⊥
+  Good (array vs) (suc d) = (count vs < 2 ^ 64) × AllGood vs d
+
+  pub AllGood : Values → ℕ → Type 0
+  AllGood none d = Unit {0}
+  AllGood (more v vs) d = Good v d × AllGood vs d

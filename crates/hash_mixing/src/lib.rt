@@ -1,0 +1,188 @@
+// BLAKE3's compression function by value. State and message stay in arrays whose elements are read
+// one by one and written all at once, so that the compiler keeps them as single words throughout.
+ghost use mathlib.Core.Path.{_≡_};
+ghost use Prim.Native.Nat.{_<_};
+ghost use Rattle.hash_mixing.specs.Compression.{plus, turn, halfOf, mixOf, columnsOf, diagonalsOf, movedOf, roundsOf, compressOf};
+
+// Four words of the state on their way through the mixing.
+struct Quad {
+    a: u32,
+    b: u32,
+    c: u32,
+    d: u32,
+}
+
+fn add(x: u32, y: u32) -> u32
+    ensures { λ r. ⌜ r ≡ plus x y ⌝ }
+{
+    std::num::wrapping_add_u32(x, y)
+}
+
+fn turn_right(x: u32, n: u32) -> u32
+    requires { ⌜ (0 < n) × (n < 32) ⌝ }
+    ensures { λ r. ⌜ r ≡ turn n x ⌝ }
+{
+    (x >> n) ^ ((x & ((1 << n) - 1)) << (32 - n))
+}
+
+fn half(a: u32, b: u32, c: u32, d: u32, x: u32, n: u32, k: u32) -> Quad
+    requires { ⌜ (0 < n) × (n < 32) × (0 < k) × (k < 32) ⌝ }
+    ensures { λ r. ⌜ r ≡ halfOf a b c d x n k ⌝ }
+{
+    let sum = add(add(a, b), x);
+    let turned = turn_right(d ^ sum, n);
+    let third = add(c, turned);
+    Quad {
+        a: sum,
+        b: turn_right(b ^ third, k),
+        c: third,
+        d: turned,
+    }
+}
+
+fn mix(a: u32, b: u32, c: u32, d: u32, x: u32, y: u32) -> Quad
+    ensures { λ r. ⌜ r ≡ mixOf a b c d x y ⌝ }
+{
+    let q = half(a, b, c, d, x, 16, 12);
+    half(q.a, q.b, q.c, q.d, y, 8, 7)
+}
+
+fn columns(v: [u32; 16], m: [u32; 16]) -> [u32; 16]
+    ensures { λ r. ⌜ r ≡ columnsOf v m ⌝ }
+{
+    let p = mix(v[0], v[4], v[8], v[12], m[0], m[1]);
+    let q = mix(v[1], v[5], v[9], v[13], m[2], m[3]);
+    let r = mix(v[2], v[6], v[10], v[14], m[4], m[5]);
+    let s = mix(v[3], v[7], v[11], v[15], m[6], m[7]);
+    [
+        p.a,
+        q.a,
+        r.a,
+        s.a,
+        p.b,
+        q.b,
+        r.b,
+        s.b,
+        p.c,
+        q.c,
+        r.c,
+        s.c,
+        p.d,
+        q.d,
+        r.d,
+        s.d,
+    ]
+}
+
+fn diagonals(v: [u32; 16], m: [u32; 16]) -> [u32; 16]
+    ensures { λ r. ⌜ r ≡ diagonalsOf v m ⌝ }
+{
+    let p = mix(v[0], v[5], v[10], v[15], m[8], m[9]);
+    let q = mix(v[1], v[6], v[11], v[12], m[10], m[11]);
+    let r = mix(v[2], v[7], v[8], v[13], m[12], m[13]);
+    let s = mix(v[3], v[4], v[9], v[14], m[14], m[15]);
+    [
+        p.a,
+        q.a,
+        r.a,
+        s.a,
+        s.b,
+        p.b,
+        q.b,
+        r.b,
+        r.c,
+        s.c,
+        p.c,
+        q.c,
+        q.d,
+        r.d,
+        s.d,
+        p.d,
+    ]
+}
+
+fn moved(m: [u32; 16]) -> [u32; 16]
+    ensures { λ r. ⌜ r ≡ movedOf m ⌝ }
+{
+    [
+        m[2],
+        m[6],
+        m[3],
+        m[10],
+        m[7],
+        m[0],
+        m[4],
+        m[13],
+        m[1],
+        m[11],
+        m[12],
+        m[5],
+        m[9],
+        m[14],
+        m[15],
+        m[8],
+    ]
+}
+
+// Written out, not a loop: only then do the moved words cost nothing once compiled.
+fn seven_rounds(v: [u32; 16], m: [u32; 16]) -> [u32; 16]
+    ensures { λ r. ⌜ r ≡ roundsOf 7 v m ⌝ }
+{
+    let c1 = columns(v, m);
+    let v1 = diagonals(c1, m);
+    let m1 = moved(m);
+    let c2 = columns(v1, m1);
+    let v2 = diagonals(c2, m1);
+    let m2 = moved(m1);
+    let c3 = columns(v2, m2);
+    let v3 = diagonals(c3, m2);
+    let m3 = moved(m2);
+    let c4 = columns(v3, m3);
+    let v4 = diagonals(c4, m3);
+    let m4 = moved(m3);
+    let c5 = columns(v4, m4);
+    let v5 = diagonals(c5, m4);
+    let m5 = moved(m4);
+    let c6 = columns(v5, m5);
+    let v6 = diagonals(c6, m5);
+    let m6 = moved(m5);
+    let c7 = columns(v6, m6);
+    diagonals(c7, m6)
+}
+
+// The compression of the block of words m into the chaining value h.
+pub fn compress(h: [u32; 8], m: [u32; 16], counter: u64, len: u32, flags: u32) -> [u32; 8]
+    ensures { λ r. ⌜ r ≡ compressOf h m counter len flags ⌝ }
+{
+    let low = (counter % 4294967296) as u32;
+    let high = (counter / 4294967296) as u32;
+    let start = [
+        h[0],
+        h[1],
+        h[2],
+        h[3],
+        h[4],
+        h[5],
+        h[6],
+        h[7],
+        0x6a09e667,
+        0xbb67ae85,
+        0x3c6ef372,
+        0xa54ff53a,
+        low,
+        high,
+        len,
+        flags,
+    ];
+    let v = seven_rounds(start, m);
+    [
+        v[0] ^ v[8],
+        v[1] ^ v[9],
+        v[2] ^ v[10],
+        v[3] ^ v[11],
+        v[4] ^ v[12],
+        v[5] ^ v[13],
+        v[6] ^ v[14],
+        v[7] ^ v[15],
+    ]
+}

@@ -1,0 +1,128 @@
+-- Every defect of a caveat has one of the three numbers of reading: step by step, by keys' DefectKinds.
+use mathlib.Core.Path.{_≡_, subst}
+use mathlib.Core.List.{List}
+use Prim.{Unit, tt}
+use Prim.Native.Nat.{ℕ, _-_}
+use lib.ListN.{take, drop}
+use Rattle.cbor_heads.specs.Counts.{readCount}
+use Rattle.cbor_strings.specs.Strings.{readRun, readString}
+use Rattle.cbor_strings.specs.declared.Class.{Class}
+use Rattle.cbor_strings.specs.declared.Class.the-variants.{Hex}
+use Rattle.cbor_strings.proofs.DefectKinds.{Kind, kind-4, kind-6, count-kinds, run-kinds, string-kinds}
+use Rattle.cbor_values.specs.Reading.{valueOf}
+use Rattle.cbor_values.proofs.DefectKinds.{value-kinds}
+use Rattle.token_cidr.specs.Reading.{cidrOf}
+use Rattle.token_cidr.specs.declared.Cidr.{Cidr}
+use Rattle.token_cidr.specs.declared.Cidr.the-variants.{Of as CidrOf, Bad as NoCidr}
+use Rattle.cbor_keys.specs.Keys.{keyAt, wantedKey}
+use Rattle.cbor_keys.specs.Fields.{nameField, numberAt, numberField}
+use Rattle.cbor_keys.specs.declared.Names.the-variants.{Caveat as CaveatKeys, T, Rate as RateKeys, Custom as CustomKeys}
+use Rattle.cbor_keys.proofs.DefectKinds.{item-step, span-step, count-step, key-step, key-kinds, wanted-kinds, number-kinds, name-field-kinds, number-field-kinds}
+use Rattle.token_scope.specs.Methods.{methodsOf}
+use Rattle.token_scope.proofs.DefectKinds.{methods-kinds, methods-step}
+use Rattle.token_caveat_values.specs.Values.{numberThen, numberValue, textThen, textValue, digestBad, digestThen, digestValue, methodThen, methodValue}
+use Rattle.token_caveat_values.specs.Values.{cidrBy, cidrThen, cidrValue, rateThen, burstThen, rateMap, rateValue, flagThen, amnesiaValue}
+use Rattle.token_caveat_values.specs.Values.{nameThen, customEnd, customThen, nsThen, customMap, customValue}
+use Rattle.token_caveat.specs.Reading.{valueAt, vThen, tThen, mapThen, caveatOf}
+use Rattle.token_caveat_values.specs.declared.CaveatParts.{CaveatParts}
+use Rattle.token_caveat_values.specs.declared.CaveatParts.the-variants.{Of, Bad}
+use Rattle.token_caveat.proofs.Inside.{value-ways}
+
+abbrev pub CaveatKind : CaveatParts → Type 0
+CaveatKind (Of part next) = Unit {0}
+CaveatKind (Bad kind at) = Kind kind
+
+defect : (kind at : ℕ) → Kind kind → CaveatKind (Bad kind at)
+defect kind at h = h
+
+cidr-by : (from to : ℕ) (c : Cidr) → CaveatKind (cidrBy from to c)
+unfolding cidrBy
+cidr-by from to NoCidr = kind-4
+cidr-by from to (CidrOf a b c d n) = tt
+
+module _ (s : List ℕ) where
+  number-value-kinds : (t at : ℕ) → CaveatKind (numberValue s t at)
+  unfolding numberValue
+  number-value-kinds t at = count-step CaveatKind Bad defect (numberThen t) (λ n next. tt) (numberAt s 0xffffffffffffffff at) (number-kinds s 0xffffffffffffffff at)
+
+  text-value-kinds : (t : ℕ) (class : Class) (high at : ℕ) → CaveatKind (textValue s t class high at)
+  unfolding textValue
+  text-value-kinds t class high at = span-step CaveatKind Bad defect (textThen t) (λ from to. tt) (readString s at class 1 high) (string-kinds s at class 1 high)
+
+  digest-value-kinds : (at : ℕ) → CaveatKind (digestValue s at)
+  unfolding digestValue
+  digest-value-kinds at =
+      span-step CaveatKind digestBad (λ kind a h. kind-4) digestThen (λ from to. tt) (readString s at Hex 64 64) (string-kinds s at Hex 64 64)
+
+  method-value-kinds : (at : ℕ) → CaveatKind (methodValue s at)
+  unfolding methodValue
+  method-value-kinds at = methods-step CaveatKind Bad defect methodThen (λ count from to. tt) (methodsOf s at) (methods-kinds s at)
+
+  cidr-value-kinds : (at : ℕ) → CaveatKind (cidrValue s at)
+  unfolding cidrValue
+  cidr-value-kinds at =
+      span-step CaveatKind Bad defect (cidrThen s) (λ from to. cidr-by from to (cidrOf (take (to - from) (drop from s))))
+      (readRun s at 3 0 0xffffffffffffffff) (run-kinds s at 3 0 0xffffffffffffffff)
+
+  amnesia-value-kinds : (at : ℕ) → CaveatKind (amnesiaValue s at)
+  unfolding amnesiaValue
+  amnesia-value-kinds at = count-step CaveatKind Bad defect flagThen (λ n next. tt) (readCount s at 7 20 21 4) (count-kinds s at 7 20 21 4 kind-4)
+
+  burst-kinds : (burst at : ℕ) → CaveatKind (burstThen s burst at)
+  unfolding burstThen
+  burst-kinds burst at =
+      count-step CaveatKind Bad defect (rateThen burst) (λ n next. tt) (numberField RateKeys s at 1 0xffffffff) (number-field-kinds RateKeys s at 1 0xffffffff)
+
+  rate-map-kinds : (n at : ℕ) → CaveatKind (rateMap s n at)
+  unfolding rateMap
+  rate-map-kinds n at =
+      count-step CaveatKind Bad defect (burstThen s) burst-kinds (numberField RateKeys s at 0 0xffffffff) (number-field-kinds RateKeys s at 0 0xffffffff)
+
+  rate-value-kinds : (at : ℕ) → CaveatKind (rateValue s at)
+  unfolding rateValue
+  rate-value-kinds at = count-step CaveatKind Bad defect (rateMap s) rate-map-kinds (readCount s at 5 2 2 6) (count-kinds s at 5 2 2 6 kind-6)
+
+  custom-end-kinds : (ns ns-end value at : ℕ) → CaveatKind (customEnd s ns ns-end value at)
+  unfolding customEnd
+  custom-end-kinds ns ns-end value at =
+      span-step CaveatKind Bad defect (nameThen ns ns-end value at) (λ from to. tt) (nameField CustomKeys s at 2) (name-field-kinds CustomKeys s at 2)
+
+  custom-then-kinds : (ns ns-end at : ℕ) → CaveatKind (customThen s ns ns-end at)
+  unfolding customThen
+  custom-then-kinds ns ns-end at = item-step CaveatKind Bad defect (customEnd s ns ns-end at) (custom-end-kinds ns ns-end at) (valueOf 4 s at) (value-kinds 4 s at)
+
+  ns-kinds : (ns at : ℕ) → CaveatKind (nsThen s ns at)
+  unfolding nsThen
+  ns-kinds ns at = item-step CaveatKind Bad defect (customThen s ns at) (custom-then-kinds ns at) (wantedKey CustomKeys s at 1) (wanted-kinds CustomKeys s at 1)
+
+  custom-map-kinds : (n at : ℕ) → CaveatKind (customMap s n at)
+  unfolding customMap
+  custom-map-kinds n at = span-step CaveatKind Bad defect (nsThen s) ns-kinds (nameField CustomKeys s at 0) (name-field-kinds CustomKeys s at 0)
+
+  custom-value-kinds : (at : ℕ) → CaveatKind (customValue s at)
+  unfolding customValue
+  custom-value-kinds at = count-step CaveatKind Bad defect (customMap s) custom-map-kinds (readCount s at 5 3 3 6) (count-kinds s at 5 3 3 6 kind-6)
+
+  value-at-kinds : (t at : ℕ) → CaveatKind (valueAt s t at)
+  value-at-kinds t at =
+      value-ways CaveatKind s t at (λ t class high. text-value-kinds t class high at) (method-value-kinds at) (cidr-value-kinds at) (rate-value-kinds at)
+      (amnesia-value-kinds at) (digest-value-kinds at) (custom-value-kinds at) (number-value-kinds t at)
+
+  v-kinds : (t at : ℕ) → CaveatKind (vThen s t at)
+  unfolding vThen
+  v-kinds t at = item-step CaveatKind Bad defect (valueAt s t) (value-at-kinds t) (wantedKey CaveatKeys s at 1) (wanted-kinds CaveatKeys s at 1)
+
+  t-kinds : (at : ℕ) → CaveatKind (tThen s at)
+  unfolding tThen
+  t-kinds at = key-step CaveatKind Bad defect (vThen s) v-kinds (keyAt T s at) (key-kinds T s at)
+
+  map-kinds : (n at : ℕ) → CaveatKind (mapThen s n at)
+  unfolding mapThen
+  map-kinds n at = item-step CaveatKind Bad defect (tThen s) t-kinds (wantedKey CaveatKeys s at 0) (wanted-kinds CaveatKeys s at 0)
+
+  pub caveat-kinds : CaveatKind (caveatOf s)
+  unfolding caveatOf
+  caveat-kinds = count-step CaveatKind Bad defect (mapThen s) map-kinds (readCount s 0 5 2 2 6) (count-kinds s 0 5 2 2 6 kind-6)
+
+pub caveat-kind : (s : List ℕ) {kind a : ℕ} → caveatOf s ≡ Bad kind a → Kind kind
+caveat-kind s e = subst CaveatKind e (caveat-kinds s)

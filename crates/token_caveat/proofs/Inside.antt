@@ -1,0 +1,147 @@
+-- Every place that the reading of a caveat answers, where it ends and where a defect is, lies inside the slice: step by step, by
+-- keys' Inside.
+use mathlib.Core.List.{List}
+use Prim.Native.Nat.{ℕ, _-_, _≤_}
+use native.Mathlib.Omega.{arith}
+use lib.Dec.{eqb}
+use lib.ListN.{length, take, drop}
+use Rattle.basis.proofs.Picks.{either}
+use Rattle.cbor_heads.specs.Counts.{readCount}
+use Rattle.cbor_strings.specs.Strings.{readRun, readString}
+use Rattle.cbor_strings.specs.declared.Class.{Class}
+use Rattle.cbor_strings.specs.declared.Class.the-variants.{Name, Printable, Path, Hex}
+use Rattle.cbor_strings.proofs.Inside.{count-in, run-in, string-in}
+use Rattle.cbor_values.specs.Reading.{valueOf}
+use Rattle.cbor_values.proofs.Inside.{value-in}
+use Rattle.token_cidr.specs.Reading.{cidrOf}
+use Rattle.token_cidr.specs.declared.Cidr.{Cidr}
+use Rattle.token_cidr.specs.declared.Cidr.the-variants.{Of as CidrOf, Bad as NoCidr}
+use Rattle.cbor_keys.specs.Keys.{keyAt, wantedKey}
+use Rattle.cbor_keys.specs.Fields.{nameField, numberAt, numberField}
+use Rattle.cbor_keys.specs.declared.Names.the-variants.{Caveat as CaveatKeys, T, Rate as RateKeys, Custom as CustomKeys}
+use Rattle.cbor_keys.proofs.Inside.{item-step, span-step, count-step, key-step, key-in, wanted-in, name-field-in, number-field-in}
+use Rattle.token_scope.specs.Methods.{methodsOf}
+use Rattle.token_scope.proofs.Inside.{methods-in, methods-step}
+use Rattle.token_caveat_values.specs.Values.{numberThen, numberValue, textThen, textValue, digestBad, digestThen, digestValue, methodThen, methodValue}
+use Rattle.token_caveat_values.specs.Values.{cidrBy, cidrThen, cidrValue, rateThen, burstThen, rateMap, rateValue, flagThen, amnesiaValue}
+use Rattle.token_caveat_values.specs.Values.{nameThen, customEnd, customThen, nsThen, customMap, customValue}
+use Rattle.token_caveat.specs.Reading.{valueAt, vThen, tThen, mapThen, caveatOf}
+use Rattle.token_caveat_values.specs.declared.CaveatParts.{CaveatParts}
+use Rattle.token_caveat_values.specs.declared.CaveatParts.the-variants.{Of, Bad}
+
+abbrev pub CaveatIn : ℕ → CaveatParts → Type 0
+CaveatIn size (Of part next) = next ≤ size
+CaveatIn size (Bad kind at) = at ≤ size
+
+-- what holds of every value's reading holds of the one that t picks
+pub value-ways : (P : CaveatParts → Type 0) (s : List ℕ) (t at : ℕ) → ((t : ℕ) (class : Class) (high : ℕ) → P (textValue s t class high at)) → P (methodValue s at)
+    → P (cidrValue s at) → P (rateValue s at) → P (amnesiaValue s at) → P (digestValue s at) → P (customValue s at) → P (numberValue s t at) → P (valueAt s t at)
+unfolding valueAt
+value-ways P s t at text method cidr rate amnesia digest custom number =
+    either P (eqb t 2) (text 2 Printable 128)
+    (either P (eqb t 3) method
+    (either P (eqb t 4) (text 4 Path 256)
+    (either P (eqb t 5) cidr
+    (either P (eqb t 7) rate
+    (either P (eqb t 8) (text 8 Name 64)
+    (either P (eqb t 9) amnesia
+    (either P (eqb t 10) digest
+    (either P (eqb t 11) custom
+    number))))))))
+
+module _ (s : List ℕ) where
+  abbrev size : ℕ
+  size = length s
+
+  abbrev In : CaveatParts → Type 0
+  In = CaveatIn size
+
+  defect : (kind at : ℕ) → at ≤ size → In (Bad kind at)
+  defect kind at h = h
+
+  number-value-in : (t at : ℕ) → at ≤ size → In (numberValue s t at)
+  unfolding numberValue
+  number-value-in t at h = count-step In size Bad defect (numberThen t) (λ n next g. g) (numberAt s 0xffffffffffffffff at) (count-in s at 0 0 0xffffffffffffffff 5 h)
+
+  text-value-in : (t : ℕ) (class : Class) (high at : ℕ) → at ≤ size → In (textValue s t class high at)
+  unfolding textValue
+  text-value-in t class high at h = span-step In size Bad defect (textThen t) (λ from to f g. g) (readString s at class 1 high) (string-in s at class 1 high h)
+
+  digest-value-in : (at : ℕ) → at ≤ size → In (digestValue s at)
+  unfolding digestValue
+  digest-value-in at h = span-step In size digestBad defect digestThen (λ from to f g. g) (readString s at Hex 64 64) (string-in s at Hex 64 64 h)
+
+  method-value-in : (at : ℕ) → at ≤ size → In (methodValue s at)
+  unfolding methodValue
+  method-value-in at h = methods-step In size Bad defect methodThen (λ count from to f g. g) (methodsOf s at) (methods-in s at h)
+
+  cidr-by : (from to : ℕ) → from ≤ size → to ≤ size → (c : Cidr) → In (cidrBy from to c)
+  unfolding cidrBy
+  cidr-by from to f g NoCidr = f
+  cidr-by from to f g (CidrOf a b c d n) = g
+
+  cidr-value-in : (at : ℕ) → at ≤ size → In (cidrValue s at)
+  unfolding cidrValue
+  cidr-value-in at h =
+      span-step In size Bad defect (cidrThen s) (λ from to f g. cidr-by from to f g (cidrOf (take (to - from) (drop from s))))
+      (readRun s at 3 0 0xffffffffffffffff) (run-in s at 3 0 0xffffffffffffffff h)
+
+  amnesia-value-in : (at : ℕ) → at ≤ size → In (amnesiaValue s at)
+  unfolding amnesiaValue
+  amnesia-value-in at h = count-step In size Bad defect flagThen (λ n next g. g) (readCount s at 7 20 21 4) (count-in s at 7 20 21 4 h)
+
+  burst-in : (burst at : ℕ) → at ≤ size → In (burstThen s burst at)
+  unfolding burstThen
+  burst-in burst at h =
+      count-step In size Bad defect (rateThen burst) (λ n next g. g) (numberField RateKeys s at 1 0xffffffff) (number-field-in RateKeys s at 1 0xffffffff h)
+
+  rate-map-in : (n at : ℕ) → at ≤ size → In (rateMap s n at)
+  unfolding rateMap
+  rate-map-in n at h = count-step In size Bad defect (burstThen s) burst-in (numberField RateKeys s at 0 0xffffffff) (number-field-in RateKeys s at 0 0xffffffff h)
+
+  rate-value-in : (at : ℕ) → at ≤ size → In (rateValue s at)
+  unfolding rateValue
+  rate-value-in at h = count-step In size Bad defect (rateMap s) rate-map-in (readCount s at 5 2 2 6) (count-in s at 5 2 2 6 h)
+
+  custom-end-in : (ns ns-end value at : ℕ) → at ≤ size → In (customEnd s ns ns-end value at)
+  unfolding customEnd
+  custom-end-in ns ns-end value at h =
+      span-step In size Bad defect (nameThen ns ns-end value at) (λ from to f g. g) (nameField CustomKeys s at 2) (name-field-in CustomKeys s at 2 h)
+
+  custom-then-in : (ns ns-end at : ℕ) → at ≤ size → In (customThen s ns ns-end at)
+  unfolding customThen
+  custom-then-in ns ns-end at h = item-step In size Bad defect (customEnd s ns ns-end at) (custom-end-in ns ns-end at) (valueOf 4 s at) (value-in 4 s at h)
+
+  ns-in : (ns at : ℕ) → ns ≤ size → at ≤ size → In (nsThen s ns at)
+  unfolding nsThen
+  ns-in ns at f h = item-step In size Bad defect (customThen s ns at) (custom-then-in ns at) (wantedKey CustomKeys s at 1) (wanted-in CustomKeys s at 1 h)
+
+  custom-map-in : (n at : ℕ) → at ≤ size → In (customMap s n at)
+  unfolding customMap
+  custom-map-in n at h = span-step In size Bad defect (nsThen s) ns-in (nameField CustomKeys s at 0) (name-field-in CustomKeys s at 0 h)
+
+  custom-value-in : (at : ℕ) → at ≤ size → In (customValue s at)
+  unfolding customValue
+  custom-value-in at h = count-step In size Bad defect (customMap s) custom-map-in (readCount s at 5 3 3 6) (count-in s at 5 3 3 6 h)
+
+  value-at-in : (t at : ℕ) → at ≤ size → In (valueAt s t at)
+  value-at-in t at h =
+      value-ways In s t at (λ t class high. text-value-in t class high at h) (method-value-in at h) (cidr-value-in at h) (rate-value-in at h) (amnesia-value-in at h)
+      (digest-value-in at h) (custom-value-in at h) (number-value-in t at h)
+
+  v-in : (t at : ℕ) → at ≤ size → In (vThen s t at)
+  unfolding vThen
+  v-in t at h = item-step In size Bad defect (valueAt s t) (value-at-in t) (wantedKey CaveatKeys s at 1) (wanted-in CaveatKeys s at 1 h)
+
+  t-in : (at : ℕ) → at ≤ size → In (tThen s at)
+  unfolding tThen
+  t-in at h = key-step In size Bad defect (vThen s) v-in (keyAt T s at) (key-in T s at h)
+
+  map-in : (n at : ℕ) → at ≤ size → In (mapThen s n at)
+  unfolding mapThen
+  map-in n at h = item-step In size Bad defect (tThen s) t-in (wantedKey CaveatKeys s at 0) (wanted-in CaveatKeys s at 0 h)
+
+pub caveat-in : (s : List ℕ) → CaveatIn (length s) (caveatOf s)
+unfolding caveatOf
+caveat-in s =
+    count-step (CaveatIn (length s)) (length s) Bad (defect s) (mapThen s) (map-in s) (readCount s 0 5 2 2 6) (count-in s 0 5 2 2 6 (omega arith))

@@ -1,0 +1,82 @@
+-- What each of the twelve caveats is, which are within limits, and how one is written. Document 01, "Token bytes": "caveat: t,
+-- v. Rate value: burst, per_s, each below 2^32. Custom value: ns, cbor, name"; the names of t are the interop paper's (2.3).
+use mathlib.Core.Bool.{Bool, true, false}
+use mathlib.Core.List.{List, _++_}
+use Prim.Native.Nat.{ℕ, _<_, _^_}
+use Prim.Native.String.{String}
+use Rattle.basis.specs.Basis.{ascii}
+use Rattle.cbor_heads.specs.Heads.{head}
+use Rattle.cbor_strings.specs.declared.Class.the-variants.{Name, Printable, Hex}
+use Rattle.cbor_values.specs.Trees.{Value, encode, Good}
+use Rattle.token_cidr.specs.Prefixes.{Prefix, textOf, Good as GoodPrefix}
+use Rattle.cbor_keys.specs.Maps.{text, entry, GoodText}
+use Rattle.token_scope.specs.Scopes.{encodeMethods, GoodMethods, GoodPath, Number64}
+
+-- `rate per-s burst`; `custom ns name value`
+pub data Caveat : Type 0 where
+  exp : ℕ → Caveat
+  nbf : ℕ → Caveat
+  aud : List ℕ → Caveat
+  method : List (List ℕ) → Caveat
+  path-prefix : List ℕ → Caveat
+  ip-cidr : Prefix → Caveat
+  bytes-le : ℕ → Caveat
+  rate : ℕ → ℕ → Caveat
+  tenant : List ℕ → Caveat
+  amnesia : Bool → Caveat
+  gov-policy-digest : List ℕ → Caveat
+  custom : List ℕ → List ℕ → Value → Caveat
+
+unfoldable pub tOf : Caveat → String
+tOf (exp n) = "exp"
+tOf (nbf n) = "nbf"
+tOf (aud a) = "aud"
+tOf (method ms) = "method"
+tOf (path-prefix p) = "path_prefix"
+tOf (ip-cidr p) = "ip_cidr"
+tOf (bytes-le n) = "bytes_le"
+tOf (rate per-s burst) = "rate"
+tOf (tenant t) = "tenant"
+tOf (amnesia b) = "amnesia"
+tOf (gov-policy-digest d) = "gov_policy_digest"
+tOf (custom ns name value) = "custom"
+
+-- RFC 8949, 3.3: false is simple value 20, true is 21
+abbrev pub simpleOf : Bool → ℕ
+simpleOf false = 20
+simpleOf true = 21
+
+unfoldable pub vOf : Caveat → List ℕ
+vOf (exp n) = head 0 n
+vOf (nbf n) = head 0 n
+vOf (aud a) = text a
+vOf (method ms) = encodeMethods ms
+vOf (path-prefix p) = text p
+vOf (ip-cidr p) = text (textOf p)
+vOf (bytes-le n) = head 0 n
+vOf (rate per-s burst) = head 5 2 ++ (entry "burst" (head 0 burst) ++ entry "per_s" (head 0 per-s))
+vOf (tenant t) = text t
+vOf (amnesia b) = head 7 (simpleOf b)
+vOf (gov-policy-digest d) = text d
+vOf (custom ns name value) = head 5 3 ++ (entry "ns" (text ns) ++ (entry "cbor" (encode value) ++ entry "name" (text name)))
+
+unfoldable pub encodeCaveat : Caveat → List ℕ
+encodeCaveat c = head 5 2 ++ (entry "t" (text (ascii (tOf c))) ++ entry "v" (vOf c))
+
+-- 01: "tid, kid, tenant, ns, name: 1 to 64 of letters, digits, "-", ".", "_""
+abbrev pub GoodName : List ℕ → Type 0
+GoodName = GoodText Name 1 64
+
+unfoldable pub GoodCaveat : Caveat → Type 0
+GoodCaveat (exp n) = Number64 n
+GoodCaveat (nbf n) = Number64 n
+GoodCaveat (aud a) = GoodText Printable 1 128 a
+GoodCaveat (method ms) = GoodMethods ms
+GoodCaveat (path-prefix p) = GoodPath p
+GoodCaveat (ip-cidr p) = GoodPrefix p
+GoodCaveat (bytes-le n) = Number64 n
+GoodCaveat (rate per-s burst) = (per-s < 2 ^ 32) × (burst < 2 ^ 32)
+GoodCaveat (tenant t) = GoodName t
+GoodCaveat (amnesia b) = Unit {0}
+GoodCaveat (gov-policy-digest d) = GoodText Hex 64 64 d
+GoodCaveat (custom ns name value) = GoodName ns × GoodName name × Good value 4

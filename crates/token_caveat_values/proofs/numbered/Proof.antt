@@ -1,0 +1,21 @@
+use borrow.Author.Tests.{ne-eqb}
+use Rattle.token_caveat_values.specs.Values.{numbered}
+use Rattle.token_caveat_values.proofs.numbered.Statement.{statement}
+use Rattle.token_caveat_values.proofs.numbered.Tie as tie
+use Rattle.token_caveat_values.proofs.numbered.Reads as reads
+use Rattle.token_caveat_values.proofs.numbered.Lts as lts
+
+returns : tie.Need-returns
+unfolding numbered
+returns c = rw (c .match .keys1)
+
+returns-2 : tie.Need-returns-2
+unfolding numbered
+returns-2 c = rw (c .match .keys2)
+
+returns-3 : tie.Need-returns-3
+unfolding numbered
+returns-3 c = rw (ne-eqb _ _ (c .match .rest .0 .1), ne-eqb _ _ (c .match .rest .1))
+
+pub numbered-spec : {M : Type 1} → statement M
+numbered-spec = tie.close (tie.spec returns returns-2 returns-3)

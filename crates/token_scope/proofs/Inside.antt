@@ -1,0 +1,51 @@
+-- Every place that the reading of a method list answers lies inside the slice, that of a defect too; see keys' Inside.
+use mathlib.Core.List.{List}
+use Prim.Native.Nat.{ℕ, _≤_}
+use lib.ListN.{length}
+use Rattle.cbor_heads.specs.Counts.{readCount}
+use Rattle.cbor_strings.specs.Strings.{readString}
+use Rattle.cbor_strings.specs.declared.Class.the-variants.{Upper}
+use Rattle.cbor_heads.specs.declared.Count.{Count}
+use Rattle.cbor_heads.specs.declared.Count.the-variants.{Of as Counted, Bad as NoCount}
+use Rattle.cbor_strings.specs.declared.Span.{Span}
+use Rattle.cbor_strings.specs.declared.Span.the-variants.{Of as Found, Bad as NoSpan}
+use Rattle.cbor_strings.proofs.Inside.{CountIn, SpanIn, count-in, string-in}
+use Rattle.cbor_values.specs.Reading.{itemsOf}
+use Rattle.cbor_values.specs.declared.Item.{Item}
+use Rattle.cbor_values.specs.declared.Item.the-variants.{End, Bad as NoItem}
+use Rattle.cbor_values.proofs.Inside.{ItemIn, items-in}
+use Rattle.token_scope.specs.Methods.{endOf, methodAt, methodsTo, methodsBy, methodsOf, afterMethods}
+use Rattle.token_scope.specs.declared.Methods.{Methods}
+use Rattle.token_scope.specs.declared.Methods.the-variants.{Of, Bad}
+
+abbrev pub MethodsIn : ℕ → Methods → Type 0
+MethodsIn size (Of count from to) = (from ≤ size) × (to ≤ size)
+MethodsIn size (Bad kind at) = at ≤ size
+
+end-in : (size : ℕ) (r : Span) → SpanIn size r → ItemIn size (endOf r)
+unfolding endOf
+end-in size (NoSpan kind at) h = h
+end-in size (Found from to) h = h .1
+
+to-in : (size count from : ℕ) → from ≤ size → (i : Item) → ItemIn size i → MethodsIn size (methodsTo count from i)
+unfolding methodsTo
+to-in size count from h (NoItem kind at) g = g
+to-in size count from h (End to) g = (h, g)
+
+method-in : (s : List ℕ) (at : ℕ) → at ≤ length s → ItemIn (length s) (methodAt s at)
+method-in s at h = end-in (length s) (readString s at Upper 1 16) (string-in s at Upper 1 16 h)
+
+methods-by : (s : List ℕ) (c : Count) → CountIn (length s) c → MethodsIn (length s) (methodsBy s c)
+unfolding methodsBy
+methods-by s (NoCount kind at) h = h
+methods-by s (Counted count from) h =
+    to-in (length s) count from h (itemsOf (methodAt s) count from) (items-in (length s) (methodAt s) (method-in s) count from h)
+
+pub methods-in : (s : List ℕ) (at : ℕ) → at ≤ length s → MethodsIn (length s) (methodsOf s at)
+methods-in s at h = methods-by s (readCount s at 4 0 16 5) (count-in s at 4 0 16 5 h)
+
+-- a step that is a method list
+pub methods-step : {A : Type 0} (P : A → Type 0) (size : ℕ) (bad : ℕ → ℕ → A) → ((kind at : ℕ) → at ≤ size → P (bad kind at)) → (rest : ℕ → ℕ → ℕ → A)
+    → ((count from to : ℕ) → from ≤ size → to ≤ size → P (rest count from to)) → (m : Methods) → MethodsIn size m → P (afterMethods bad rest m)
+methods-step P size bad defect rest go (Bad kind at) h = defect kind at h
+methods-step P size bad defect rest go (Of count from to) h = go count from to (h .0) (h .1)

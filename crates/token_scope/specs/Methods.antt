@@ -1,0 +1,40 @@
+-- The one reading of a method list. Document 01: "Method lists: 0 to 16 of 1 to 16 letters A-Z; order and repeats are kept", and
+-- "Array count over its limit .. parse.bounds".
+use mathlib.Core.List.{List}
+use Prim.Native.Nat.{ℕ}
+use Rattle.cbor_heads.specs.Counts.{readCount}
+use Rattle.cbor_strings.specs.Strings.{readString}
+use Rattle.cbor_strings.specs.declared.Class.the-variants.{Upper}
+use Rattle.cbor_heads.specs.declared.Count.{Count}
+use Rattle.cbor_heads.specs.declared.Count.the-variants.{Of as Counted, Bad as NoCount}
+use Rattle.cbor_strings.specs.declared.Span.{Span}
+use Rattle.cbor_strings.specs.declared.Span.the-variants.{Of as Found, Bad as NoSpan}
+use Rattle.cbor_values.specs.Reading.{itemsOf}
+use Rattle.cbor_values.specs.declared.Item.{Item}
+use Rattle.cbor_values.specs.declared.Item.the-variants.{End, Bad as NoItem}
+use Rattle.token_scope.specs.declared.Methods.{Methods}
+use Rattle.token_scope.specs.declared.Methods.the-variants.{Of, Bad}
+
+unfoldable pub endOf : Span → Item
+endOf (Found from to) = End to
+endOf (NoSpan kind at) = NoItem kind at
+
+abbrev pub methodAt : List ℕ → ℕ → Item
+methodAt s at = endOf (readString s at Upper 1 16)
+
+-- how many there are, where the first begins and where the last ends
+unfoldable pub methodsTo : ℕ → ℕ → Item → Methods
+methodsTo count from (End to) = Of count from to
+methodsTo count from (NoItem kind at) = Bad kind at
+
+unfoldable pub methodsBy : List ℕ → Count → Methods
+methodsBy s (NoCount kind at) = Bad kind at
+methodsBy s (Counted count from) = methodsTo count from (itemsOf (methodAt s) count from)
+
+abbrev pub methodsOf : List ℕ → ℕ → Methods
+methodsOf s at = methodsBy s (readCount s at 4 0 16 5)
+
+-- a step of a reading that is a method list; see Steps
+abbrev pub afterMethods : {A : Type 0} → (ℕ → ℕ → A) → (ℕ → ℕ → ℕ → A) → Methods → A
+afterMethods bad rest (Bad kind at) = bad kind at
+afterMethods bad rest (Of count from to) = rest count from to

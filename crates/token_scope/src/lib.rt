@@ -1,0 +1,169 @@
+// Scopes: what they are, how they are written and how they are read. A reader takes a slice of any length
+// and a place in it; a defect carries document 01's number and the place of the item at fault.
+use cbor_heads::Count;
+use cbor_keys::Key;
+use cbor_keys::Names;
+use cbor_strings::Class;
+use cbor_strings::Span;
+use cbor_values::Item;
+ghost use mathlib.Core.Path.{_≡_};
+ghost use Rattle.cbor_values.specs.Reading.{itemsOf};
+ghost use Rattle.token_scope.specs.Methods.{methodAt, methodsOf};
+ghost use Rattle.token_scope.specs.Reading.{prefixThen, methodsThen, limitThen, scopeOf};
+
+// How many methods a list has, where the first begins and where the last ends.
+pub enum Methods {
+    Of { count: u64, from: usize, to: usize },
+    Bad { kind: u32, at: usize },
+}
+
+pub enum Prefix {
+    Absent,
+    Of { from: usize, to: usize },
+}
+
+pub enum Limit {
+    Absent,
+    Of { n: u64 },
+}
+
+// What a scope holds: where the prefix's content and the methods lie, max_bytes, and where the scope ends.
+pub enum ScopeParts {
+    Of {
+        prefix: Prefix,
+        count: u64,
+        from: usize,
+        to: usize,
+        max_bytes: Limit,
+        next: usize,
+    },
+    Bad {
+        kind: u32,
+        at: usize,
+    },
+}
+
+fn method_at(s: &[u8], at: usize) -> Item
+    ensures { λ r. ⌜ r ≡ methodAt (now (s .entry)) at ⌝ }
+{
+    match cbor_strings::read_string(s, at, Class::Upper, 1, 16) {
+        Span::Of { from: _, to } => Item::End { next: to },
+        Span::Bad { kind, at: a } => Item::Bad { kind, at: a },
+    }
+}
+
+fn methods_end(s: &[u8], from: usize, count: u64) -> Item
+    ensures { λ r. ⌜ r ≡ itemsOf (methodAt (now (s .entry))) count from ⌝ }
+{
+    let mut p = from;
+    let mut k = count;
+    while 0 < k {
+        match method_at(s, p) {
+            Item::Bad { kind, at } => {
+                return Item::Bad { kind, at };
+            }
+            Item::End { next } => {
+                p = next;
+            }
+        }
+        k -= 1;
+    }
+    Item::End { next: p }
+}
+
+pub fn read_methods(s: &[u8], at: usize) -> Methods
+    ensures { λ r. ⌜ r ≡ methodsOf (now (s .entry)) at ⌝ }
+{
+    let count = cbor_heads::read_count(s, at, 4, 0, 16, 5);
+    match count {
+        Count::Bad { kind, at: a } => Methods::Bad { kind, at: a },
+        Count::Of { n, next: from } => match methods_end(s, from, n) {
+            Item::Bad { kind, at: a } => Methods::Bad { kind, at: a },
+            Item::End { next: to } => Methods::Of { count: n, from, to },
+        },
+    }
+}
+
+// Where `left` entries are left behind the methods.
+fn limit_then(s: &[u8], prefix: Prefix, count: u64, from: usize, to: usize, left: u64) -> ScopeParts
+    ensures { λ r. ⌜ r ≡ limitThen (now (s .entry)) prefix count from to left ⌝ }
+{
+    if left == 0 {
+        return ScopeParts::Of {
+            prefix,
+            count,
+            from,
+            to,
+            max_bytes: Limit::Absent,
+            next: to,
+        };
+    }
+    match cbor_keys::number_field(s, to, Names::Scope, 2, 0xffff_ffff_ffff_ffff) {
+        Count::Bad { kind, at: a } => ScopeParts::Bad { kind, at: a },
+        Count::Of { n, next } => {
+            if left == 1 {
+                return ScopeParts::Of {
+                    prefix,
+                    count,
+                    from,
+                    to,
+                    max_bytes: Limit::Of { n },
+                    next,
+                };
+            }
+            // max_bytes is the last key, so that whatever is known is out of its place
+            match cbor_keys::key_at(s, next, Names::Scope) {
+                Key::Bad { kind, at: a } => ScopeParts::Bad { kind, at: a },
+                Key::Of { index: _, next: _ } => ScopeParts::Bad { kind: 4, at: next },
+            }
+        }
+    }
+}
+
+// Where the methods' value is at `at`, and `left` entries follow it.
+fn methods_then(s: &[u8], at: usize, prefix: Prefix, left: u64) -> ScopeParts
+    ensures { λ r. ⌜ r ≡ methodsThen (now (s .entry)) prefix left at ⌝ }
+{
+    match read_methods(s, at) {
+        Methods::Bad { kind, at: a } => ScopeParts::Bad { kind, at: a },
+        Methods::Of { count, from, to } => limit_then(s, prefix, count, from, to, left),
+    }
+}
+
+// Where the prefix's value is at `next`, in a map of n entries at `at`.
+fn prefix_then(s: &[u8], at: usize, n: u64, next: usize) -> ScopeParts
+    ensures { λ r. ⌜ r ≡ prefixThen (now (s .entry)) at n next ⌝ }
+{
+    match cbor_strings::read_string(s, next, Class::Path, 1, 256) {
+        Span::Bad { kind, at: a } => ScopeParts::Bad { kind, at: a },
+        Span::Of { from, to } => {
+            if n < 2 {
+                return ScopeParts::Bad { kind: 4, at };
+            }
+            match cbor_keys::wanted_key(s, to, Names::Scope, 1) {
+                Item::Bad { kind, at: a } => ScopeParts::Bad { kind, at: a },
+                Item::End { next: p } => methods_then(s, p, Prefix::Of { from, to }, n - 2),
+            }
+        }
+    }
+}
+
+pub fn read_scope(s: &[u8], at: usize) -> ScopeParts
+    ensures { λ r. ⌜ r ≡ scopeOf (now (s .entry)) at ⌝ }
+{
+    match cbor_heads::read_count(s, at, 5, 1, 3, 6) {
+        Count::Bad { kind, at: a } => ScopeParts::Bad { kind, at: a },
+        Count::Of { n, next: p } => match cbor_keys::key_at(s, p, Names::Scope) {
+            Key::Bad { kind, at: a } => ScopeParts::Bad { kind, at: a },
+            Key::Of { index, next } => {
+                if index == 0 {
+                    return prefix_then(s, at, n, next);
+                }
+                if index == 1 {
+                    return methods_then(s, next, Prefix::Absent, n - 1);
+                }
+                ScopeParts::Bad { kind: 4, at: p }
+            }
+        },
+    }
+}

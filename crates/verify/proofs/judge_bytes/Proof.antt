@@ -1,0 +1,56 @@
+use mathlib.Core.Path.{sym, _∙_}
+use Rattle.verify.proofs.Found.{unreadable, read-ready, with-its-key, no-key}
+use borrow.Author.Needs.{needs}
+use Rattle.verify.proofs.judge_bytes.Statement.{statement}
+use Rattle.verify.proofs.judge_bytes.Tie as tie
+use Rattle.verify.proofs.judge_bytes.Reads as reads
+use Rattle.verify.proofs.judge_bytes.Lts as lts
+use Rattle.basis.proofs.part.Reads as part-reads
+use Rattle.verify_walk.proofs.with_key.Reads as with-key-reads
+use Rattle.records_table.proofs.find.Reads as find-reads
+use Rattle.token.proofs.read_token.Reads as read-token-reads
+
+read-token-requires : tie.Need-read-token-requires
+read-token-requires c κs = search needs
+
+enum-known-kind : tie.Need-enum-known-kind
+enum-known-kind c = search needs
+
+enum-known-count : tie.Need-enum-known-count
+enum-known-count c = search needs
+
+part-requires : tie.Need-part-requires
+part-requires c κs = search needs
+
+part-requires-2 : tie.Need-part-requires-2
+part-requires-2 c κs = search needs
+
+find-requires : tie.Need-find-requires
+find-requires c κs = search needs
+
+with-key-requires : tie.Need-with-key-requires
+with-key-requires c κs = read-ready (c .before .before .before .before .before .before .before .before .before .before .before .before .args .s .now) (sym (c .before .before .before .before .before .before .before .read-token .ensures) ∙ c .before .before .before .before .before .count .given .1) (λ i. c .before .before .before .before .before .before .before .before .before .before .shared-slice-known2 .given i .fits) (c .before .before .before .before .before .before .before .before .before .before .before .before .pre) (c .if1 .taken)
+
+returns : tie.Need-returns
+returns c = c .with-key .ensures ∙ with-its-key (c .before .before .before .before .before .before .before .before .before .before .before .before .before .args .table .now) (c .before .before .before .before .before .before .before .before .before .before .before .before .before .args .s .now) (c .before .before .before .before .before .before .before .before .before .before .before .before .before .args .body .now) (c .before .before .before .before .before .before .before .before .before .before .before .before .before .args .asked) (c .before .before .before .before .before .before .before .before .before .before .before .before .before .args .tenant .now) (sym (c .before .before .before .before .before .before .before .before .read-token .ensures) ∙ c .before .before .before .before .before .before .count .given .1) (c .before .before .before .before .part .ensures .0) (c .before .before .before .part2 .ensures .0) (c .before .before .find .ensures .0) (c .before .if1 .taken)
+
+returns-2 : tie.Need-returns-2
+returns-2 c = unreadable (c .before .before .before .before .before .before .before .before .args .table .now) (c .before .before .before .before .before .before .before .before .args .s .now) (c .before .before .before .before .before .before .before .before .args .body .now) (c .before .before .before .before .before .before .before .before .args .asked) (c .before .before .before .before .before .before .before .before .args .tenant .now) (sym (c .before .before .before .read-token .ensures) ∙ c .before .kind .given .1)
+
+returns-3 : tie.Need-returns-3
+returns-3 c = no-key (c .before .before .before .before .before .before .before .before .before .before .before .before .args .table .now) (c .before .before .before .before .before .before .before .before .before .before .before .before .args .s .now) (c .before .before .before .before .before .before .before .before .before .before .before .before .args .body .now) (c .before .before .before .before .before .before .before .before .before .before .before .before .args .asked) (c .before .before .before .before .before .before .before .before .before .before .before .before .args .tenant .now) (sym (c .before .before .before .before .before .before .before .read-token .ensures) ∙ c .before .before .before .before .before .count .given .1) (c .before .before .before .part .ensures .0) (c .before .before .part2 .ensures .0) (c .before .find .ensures .0) (c .if1 .left)
+
+pub judge-bytes-spec : {M : Type 1} → statement M
+judge-bytes-spec =
+    tie.close
+    (tie.spec
+    read-token-requires
+    enum-known-kind
+    enum-known-count
+    part-requires
+    part-requires-2
+    find-requires
+    with-key-requires
+    returns
+    returns-2
+    returns-3)
