@@ -8,6 +8,7 @@ use crate::cases::{fitting_for, shorten, Case, Triple, CAVEATS};
 use crate::fitting::{self, Broken, NUMBERS};
 use crate::inputs;
 use crate::requests;
+use crate::strings;
 use crate::tables::{self, Row};
 use crate::tree::Node;
 use crate::trees::{self, KINDS};
@@ -134,7 +135,7 @@ fn wrong_tag(case: &Case, seeded: &mut Seeded) -> Vec<u8> {
 fn lay(mut case: Case, token: &[u8], faults: &[Fault], seeded: &mut Seeded) -> Triple {
     let is = |fault| faults.contains(&fault);
     if is(Fault::Tenant) {
-        case.request.tenant = fitting::other_name(&case.request.tenant, seeded);
+        case.request.tenant = strings::other_name(&case.request.tenant, seeded);
     }
     if is(Fault::Key) {
         case.rows.retain(|row| *row != case.row);

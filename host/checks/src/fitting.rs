@@ -2,7 +2,7 @@
 //! request says, since it is there that slips of a rule show.
 
 use crate::requests::Request;
-use crate::strings::{digest, method, printable};
+use crate::strings::{digest, method, other, other_name, printable};
 use crate::tree::Node;
 use crate::trees::{self, caveat_of, KINDS};
 use crate::Seeded;
@@ -39,34 +39,6 @@ fn below(bound: u64, seeded: &mut Seeded) -> Option<u64> {
 
 fn above(bound: u64, seeded: &mut Seeded) -> Option<u64> {
     Some(at_least(bound.checked_add(1)?, seeded))
-}
-
-/// Another text near this one, of at most `most` bytes: with one byte more, one less or another one, or a
-/// letter in the other case, unless only upper case may come.
-pub fn other(text: &[u8], fillers: [u8; 2], most: usize, seeded: &mut Seeded) -> Vec<u8> {
-    let mut others = Vec::new();
-    if text.len() < most {
-        others.push([text, &fillers[..1]].concat());
-    }
-    if text.len() > 1 {
-        others.push(text[..text.len() - 1].to_vec());
-    }
-    for at in [0, text.len() / 2, text.len() - 1] {
-        let mut changed = text.to_vec();
-        changed[at] = if text[at] == fillers[0] { fillers[1] } else { fillers[0] };
-        others.push(changed);
-    }
-    let letter = text.iter().position(u8::is_ascii_alphabetic);
-    if let Some(at) = letter.filter(|_| !fillers[0].is_ascii_uppercase()) {
-        let mut changed = text.to_vec();
-        changed[at] ^= 0x20;
-        others.push(changed);
-    }
-    one(others, seeded)
-}
-
-pub fn other_name(text: &[u8], seeded: &mut Seeded) -> Vec<u8> {
-    other(text, *b"x-", 64, seeded)
 }
 
 /// Methods with the request's among them, more than once at times.

@@ -3,7 +3,6 @@
 
 use second::request::{self, Rate};
 
-use crate::fitting;
 use crate::inputs;
 use crate::strings;
 use crate::Seeded;
@@ -159,8 +158,8 @@ fn change_part(request: &mut Request, seeded: &mut Seeded) {
 /// The method, the path or the tenant is another one.
 fn change_text(request: &mut Request, seeded: &mut Seeded) {
     match seeded.below(4) {
-        0 => request.method = fitting::other(&request.method, *b"XY", 16, seeded),
-        1 => request.tenant = fitting::other_name(&request.tenant, seeded),
+        0 => request.method = strings::other(&request.method, *b"XY", 16, seeded),
+        1 => request.tenant = strings::other_name(&request.tenant, seeded),
         2 if request.path.len() > 1 => request.path.truncate(1 + seeded.below(request.path.len())),
         _ => request.path.resize((request.path.len() + 1).min(1024), b'/'),
     }

@@ -1,5 +1,5 @@
-//! Good strings of each class, from a seed. Lengths are often those at an end of what document 01
-//! allows.
+//! Good strings of each class, from a seed, and others near one. Lengths are often those at an end of what
+//! document 01 allows.
 
 use crate::Seeded;
 
@@ -42,4 +42,32 @@ pub fn path(most: usize, seeded: &mut Seeded) -> Vec<u8> {
     let mut path = printable(most, seeded);
     path[0] = b'/';
     path
+}
+
+/// Another text near this one, of at most `most` bytes: with one byte more, one less or another one, or a
+/// letter in the other case, unless only upper case may come.
+pub fn other(text: &[u8], fillers: [u8; 2], most: usize, seeded: &mut Seeded) -> Vec<u8> {
+    let mut others = Vec::new();
+    if text.len() < most {
+        others.push([text, &fillers[..1]].concat());
+    }
+    if text.len() > 1 {
+        others.push(text[..text.len() - 1].to_vec());
+    }
+    for at in [0, text.len() / 2, text.len() - 1] {
+        let mut changed = text.to_vec();
+        changed[at] = if text[at] == fillers[0] { fillers[1] } else { fillers[0] };
+        others.push(changed);
+    }
+    let letter = text.iter().position(u8::is_ascii_alphabetic);
+    if let Some(at) = letter.filter(|_| !fillers[0].is_ascii_uppercase()) {
+        let mut changed = text.to_vec();
+        changed[at] ^= 0x20;
+        others.push(changed);
+    }
+    others.swap_remove(seeded.below(others.len()))
+}
+
+pub fn other_name(text: &[u8], seeded: &mut Seeded) -> Vec<u8> {
+    other(text, *b"x-", 64, seeded)
 }

@@ -1,15 +1,11 @@
-//! Bundles: tables, requests and tokens as records one behind the other.
+//! Bundles: tables, requests and tokens as records one behind the other. Each is judged by itself before it is
+//! laid, unless it is wanted as it is; what is read may have a rest that is no record.
 
-use std::path::{Path, PathBuf};
-
-use clap::builder::{PathBufValueParser, TypedValueParser, ValueParser};
-use clap::{Arg, ArgAction, ArgMatches, Args, Command, FromArgMatches, Parser};
-
-use crate::order::{self, Placed};
+use crate::order::Placed;
+use crate::parts::{named, Part};
 use crate::problem::{refused, wrong, Done};
-use crate::values::said;
-use crate::words::{BundleWords, RequestWords};
-use crate::{explain, files, library, make};
+use crate::words::BundleWords;
+use crate::{explain, files, library, records, request};
 
 pub const TABLE: u16 = 16;
 pub const REQUEST: u16 = 32;
@@ -17,99 +13,6 @@ pub const TOKEN: u16 = 48;
 
 /// The longest body that a record can have.
 const RECORD: usize = 65_535;
-
-/// What a record is made from.
-#[derive(Clone, Debug)]
-pub enum Part {
-    File(PathBuf),
-    Asked(Box<RequestWords>),
-    Text(String),
-}
-
-const OPTIONS: [(&str, &str, &str); 5] = [
-    ("table", "FILE", "A key table, for the tokens behind it; may be repeated"),
-    ("request", "FILE", "A request, for the tokens behind it; may be repeated"),
-    ("ask", "WORDS", "The same from the words of the verb request, as one value; may be repeated"),
-    ("token", "FILE", "A token to judge; may be repeated"),
-    ("token-text", "TEXT", "A token's text itself; may be repeated"),
-];
-
-/// All parts in their order.
-#[derive(Clone, Debug)]
-pub struct Parts(Vec<Placed<Part>>);
-
-impl FromArgMatches for Parts {
-    fn from_arg_matches(matches: &ArgMatches) -> Result<Parts, clap::Error> {
-        Ok(Parts(order::of(matches, &OPTIONS.map(|(option, ..)| option))))
-    }
-
-    fn update_from_arg_matches(&mut self, matches: &ArgMatches) -> Result<(), clap::Error> {
-        *self = Parts::from_arg_matches(matches)?;
-        Ok(())
-    }
-}
-
-impl Parts {
-    /// What is wrong with these words, before anything is read.
-    pub fn judged(&self) -> Done<()> {
-        if self.0.is_empty() {
-            return wrong("there is nothing to lay into the bundle: --table, --request, --ask, --token or --token-text");
-        }
-        self.0.iter().try_for_each(|part| match &part.value {
-            Part::Asked(words) => make::request(words).map(drop).map_err(|problem| problem.of(&named(part))),
-            _ => Ok(()),
-        })
-    }
-
-    /// The files that they are in, and by which option.
-    pub fn files(&self) -> Vec<(&'static str, &Path)> {
-        let mut files = Vec::new();
-        for part in &self.0 {
-            if let Part::File(file) = &part.value {
-                files.push((part.option, file.as_path()));
-            }
-        }
-        files
-    }
-}
-
-/// A part as it stands on the command line.
-fn named(part: &Placed<Part>) -> String {
-    format!("--{} {}", part.option, said(&part.said))
-}
-
-impl Args for Parts {
-    fn augment_args(command: Command) -> Command {
-        OPTIONS.into_iter().fold(command, |command, (option, value, help)| {
-            let read: ValueParser = match option {
-                "ask" => ValueParser::new(asked),
-                "token-text" => ValueParser::new(|text: &str| Ok::<_, String>(Part::Text(text.to_owned()))),
-                _ => PathBufValueParser::new().map(Part::File).into(),
-            };
-            let arg = Arg::new(option).long(option).value_name(value).help(help).help_heading("Records, in order");
-            // The words of a request begin as options do.
-            let hyphens = option == "ask";
-            command.arg(arg.action(ArgAction::Append).value_parser(read).allow_hyphen_values(hyphens))
-        })
-    }
-
-    fn augment_args_for_update(command: Command) -> Command {
-        Parts::augment_args(command)
-    }
-}
-
-/// A command line of its own inside one word: no value that a request may have has a blank in it.
-#[derive(Parser)]
-#[command(no_binary_name = true, disable_help_flag = true)]
-struct Asked {
-    #[command(flatten)]
-    request: RequestWords,
-}
-
-fn asked(words: &str) -> Result<Part, String> {
-    let read = Asked::try_parse_from(words.split_whitespace());
-    read.map(|asked| Part::Asked(Box::new(asked.request))).map_err(|error| crate::refusal::said(&error))
-}
 
 /// The bundle's bytes.
 pub fn made(words: &BundleWords) -> Done<Vec<u8>> {
@@ -119,7 +22,7 @@ pub fn made(words: &BundleWords) -> Done<Vec<u8>> {
         let Ok(_) = u16::try_from(body.len()) else {
             return wrong(format!("{}: a record has at most 65,535 bytes", named(part)));
         };
-        bundle.extend(make::record(kind, &body));
+        bundle.extend(records::record(kind, &body));
     }
     if bundle.len() > files::BUNDLE {
         return wrong(format!("the bundle would have {} bytes, and at most 65,536 are judged", bundle.len()));
@@ -144,7 +47,7 @@ fn record(part: &Placed<Part>, judged: bool) -> Done<(u16, Vec<u8>)> {
             if bad(answer) { refused(answer, what, None) } else { Ok((REQUEST, request)) }
         }
         (_, Part::Asked(words)) => {
-            let request = make::request(words)?;
+            let request = request::made(words)?;
             let answer = library::request_answer(&request);
             if bad(answer) {
                 return explain::request(words, answer).map_err(|problem| problem.of(&what));

@@ -7,7 +7,7 @@ use clap::{Arg, ArgAction, ArgMatches, Args, Command, FromArgMatches};
 
 use crate::items;
 use crate::order::{self, Placed};
-use crate::problem::Done;
+use crate::problem::{said, Done};
 use crate::values::{self, Custom, Hex, Methods, Rate};
 
 /// What a caveat says, or all of its bytes.
@@ -83,7 +83,7 @@ pub type Caveat = Placed<Value>;
 impl Caveat {
     /// The words as they stand on the command line.
     pub fn words(&self) -> String {
-        format!("--{} {}", self.option, values::said(&self.said))
+        format!("--{} {}", self.option, said(&self.said))
     }
 
     /// A caveat's bytes; they may be bad, and the library says so.

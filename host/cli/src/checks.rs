@@ -3,11 +3,12 @@
 use std::path::{Path, PathBuf};
 
 use crate::caveats::Caveats;
-use crate::files::{is_input, Out};
-use crate::make;
+use crate::files::is_input;
+use crate::out::Out;
 use crate::problem::{wrong, Done};
 use crate::values::Hex;
 use crate::words::{ShowWords, TableWords, TokenWords, Verb};
+use crate::{make, request};
 
 /// The one word that belongs to no option.
 const FILE: &str = "FILE";
@@ -24,9 +25,9 @@ pub fn judged(verb: &Verb) -> Done<()> {
         Verb::Caveat(words) => some(&words.caveats),
         Verb::Issue(words) if words.scope_hex.is_none() => make::scope(&words.scope).map(drop),
         Verb::Narrow(words) => some(&words.caveats).and_then(|()| there(&words.token)),
-        Verb::Request(words) => make::request(&words.request).map(drop),
+        Verb::Request(words) => request::made(&words.request).map(drop),
         Verb::Verify(words) if words.file.is_none() => {
-            there(&words.token).and_then(|()| make::request(&words.request).map(drop))
+            there(&words.token).and_then(|()| request::made(&words.request).map(drop))
         }
         Verb::Verify(words) => there(&words.token),
         Verb::Bundle(words) => words.parts.judged(),

@@ -8,10 +8,12 @@ use crate::library::{
     caveat_answer, request_answer, scope_answer, table_is_good, KID_UNKNOWN, MAC_MISMATCH, PARSE_B64, PARSE_BOUNDS,
     TABLE_BAD, UNKNOWN_FIELD,
 };
-use crate::make::{request_of, row, scope_of, Laid};
-use crate::problem::{refused, Done};
-use crate::values::{said, Custom, Hex, Ids, Methods};
-use crate::words::{RequestWords, ScopeWords};
+use crate::make::{scope_of, Laid};
+use crate::problem::{refused, said, Done};
+use crate::records::row;
+use crate::request::{self, RequestWords};
+use crate::values::{Custom, Hex, Ids, Methods};
+use crate::words::ScopeWords;
 use crate::{files, items, show};
 
 pub const METHOD: &str = "a method is 1 to 16 letters A to Z";
@@ -77,7 +79,7 @@ pub fn scope_hex<T>(hex: &Hex, answer: u32) -> Done<T> {
 }
 
 pub fn request<T>(words: &RequestWords, answer: u32) -> Done<T> {
-    let taken = |words: RequestWords| request_answer(&request_of(&words, 0)) == 0;
+    let taken = |words: RequestWords| request_answer(&request::body(&words, 0)) == 0;
     let plain = || RequestWords::plain("t");
     let skew = words.skew.map(|skew| skew.to_string());
     let words_alone = [

@@ -5,8 +5,7 @@
 use archive::Written;
 
 use crate::files::TEXT;
-use crate::items;
-use crate::make;
+use crate::{items, records, request};
 
 pub const TABLE_BAD: u32 = 1;
 pub const CTX_BAD: u32 = 2;
@@ -59,19 +58,19 @@ pub fn scope_answer(scope: &[u8]) -> u32 {
 
 /// Verify reads the token before it looks for a key.
 pub fn token_answer(token: &[u8]) -> u32 {
-    among(archive::verify(b"", &make::plain_request("t"), token), PARSE_B64..=UNKNOWN_FIELD)
+    among(archive::verify(b"", &request::plain("t"), token), PARSE_B64..=UNKNOWN_FIELD)
 }
 
 /// Whether the table has a readable token's key and the tag is right under it: verify judges both before anything
 /// that a request could fail.
 pub fn tag_answer(table: &[u8], token: &[u8], tid: &str) -> u32 {
-    let answer = archive::verify(table, &make::plain_request(tid), token);
+    let answer = archive::verify(table, &request::plain(tid), token);
     among(answer, TABLE_BAD..=TABLE_BAD).max(among(answer, KID_UNKNOWN..=MAC_MISMATCH))
 }
 
 /// Narrow reads the caveat once its parent is good, so one is made under a key that counts for nothing else.
 pub fn caveat_answer(caveat: &[u8]) -> u32 {
-    let table = make::row("t", "k", &[0; 32]).unwrap_or_default();
+    let table = records::row("t", "k", &[0; 32]).unwrap_or_default();
     let parent = issue(&table, "t", "k", &items::map(&[("methods", items::texts(&[]))])).unwrap_or_default();
     among(archive::narrow(&table, &parent, caveat, &mut []).answer, CAV_CBOR..=CAV_UNKNOWN)
 }

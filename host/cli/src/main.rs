@@ -10,10 +10,14 @@ mod library;
 mod make;
 mod names;
 mod order;
+mod out;
 mod pages;
+mod parts;
 mod problem;
 mod racks;
+mod records;
 mod refusal;
+mod request;
 mod show;
 mod standard;
 mod times;
@@ -46,7 +50,7 @@ fn run(args: Vec<OsString>) -> Done<u8> {
     match Words::try_parse_from(args) {
         Ok(words) => checks::judged(&words.verb).and_then(|()| verbs::done(words.verb)),
         Err(error) if matches!(error.kind(), ErrorKind::DisplayHelp | ErrorKind::DisplayVersion) => {
-            files::print(error.to_string().as_bytes()).map(|()| 0)
+            out::print(error.to_string().as_bytes()).map(|()| 0)
         }
         Err(error) => wrong(format!("{}\nbhinorpa --help shows each verb and an example", refusal::said(&error))),
     }

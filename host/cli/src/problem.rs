@@ -1,4 +1,4 @@
-//! What goes wrong with a command, and the status that it then ends with.
+//! What goes wrong with a command, how it is told, and the status that the command then ends with.
 
 use std::fmt;
 use std::io::{self, Write};
@@ -25,6 +25,12 @@ pub fn wrong<T>(said: impl fmt::Display) -> Done<T> {
 /// What the library refuses, and why in words; where there are none, what the answer means.
 pub fn refused<T>(answer: u32, what: impl fmt::Display, why: Option<&str>) -> Done<T> {
     Err(Problem::Refused(answer, format!("{what}: {}", why.unwrap_or(names::meaning(answer)))))
+}
+
+/// A value as it stands in a message: in quotes where it would not be seen, or would break the line.
+pub fn said(value: &str) -> String {
+    let plain = !value.is_empty() && value.chars().all(|letter| !letter.is_whitespace() && !letter.is_control());
+    if plain { value.to_owned() } else { format!("{value:?}") }
 }
 
 impl Problem {

@@ -5,7 +5,7 @@ use std::error::Error as _;
 use clap::error::{ContextKind, ContextValue, ErrorKind};
 use clap::Error;
 
-use crate::values::said as said_value;
+use crate::problem::said as said_value;
 
 /// One sentence for an error of the command line.
 pub fn said(error: &Error) -> String {

@@ -4,6 +4,7 @@
 use serde_json::{json, Map, Value};
 
 use crate::items::{Item, Tree};
+use crate::records::{rows, Fields};
 use crate::times;
 use crate::values::{as_hex, Ids};
 
@@ -38,17 +39,6 @@ pub fn table(table: &[u8], keys: bool) -> Shown {
     };
     let json = json!({"rows": rows.iter().map(row).collect::<Vec<_>>()});
     Shown { lines: rows.iter().map(line).collect(), json }
-}
-
-/// The rows of a good table.
-pub fn rows(table: &[u8]) -> Vec<(Ids, Vec<u8>)> {
-    let mut fields = Fields(table);
-    std::iter::from_fn(|| {
-        fields.take(4)?;
-        let (tid, kid) = (fields.text(1)?, fields.text(1)?);
-        Some((Ids { tid, kid }, fields.take(32)?.to_vec()))
-    })
-    .collect()
 }
 
 /// Of a good request.
@@ -205,28 +195,6 @@ impl Entries {
 
     fn done(self) -> Shown {
         Shown { lines: self.lines, json: self.json.into() }
-    }
-}
-
-/// What is left to read.
-struct Fields<'a>(&'a [u8]);
-
-impl<'a> Fields<'a> {
-    fn take(&mut self, length: usize) -> Option<&'a [u8]> {
-        let front = self.0.get(..length)?;
-        self.0 = &self.0[length..];
-        Some(front)
-    }
-
-    /// The lowest byte comes first.
-    fn number(&mut self, width: usize) -> Option<u64> {
-        Some(self.take(width)?.iter().rev().fold(0, |number, &byte| number << 8 | u64::from(byte)))
-    }
-
-    /// Behind its length.
-    fn text(&mut self, width: usize) -> Option<String> {
-        let length = self.number(width)?;
-        Some(String::from_utf8_lossy(self.take(length as usize)?).into_owned())
     }
 }
 

@@ -7,7 +7,7 @@ use std::path::{Path, PathBuf};
 use std::str::FromStr;
 
 use crate::files;
-use crate::problem::{wrong, Done};
+use crate::problem::{said, wrong, Done};
 use crate::times;
 
 /// Bytes in hex: on the command line, or in a file, where keys are better kept.
@@ -83,12 +83,6 @@ fn digits(text: &str) -> Result<Vec<u8>, String> {
         return Err(format!("an odd number of hex digits, {}, is no row of bytes", digits.len()));
     }
     Ok(digits.chunks(2).map(|two| two[0] * 16 + two[1]).collect())
-}
-
-/// A value as it stands in a message: in quotes where it would not be seen, or would break the line.
-pub fn said(value: &str) -> String {
-    let plain = !value.is_empty() && value.chars().all(|letter| !letter.is_whitespace() && !letter.is_control());
-    if plain { value.to_owned() } else { format!("{value:?}") }
 }
 
 pub fn as_hex(bytes: &[u8]) -> String {

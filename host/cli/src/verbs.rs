@@ -6,12 +6,13 @@ use serde_json::json;
 
 use crate::caveats::{Caveat, Caveats};
 use crate::library::{CAV_CBOR, CTX_BAD, KID_UNKNOWN, MAC_MISMATCH, TABLE_BAD};
+use crate::out::{self, Out};
 use crate::problem::{refused, wrong, Done, Problem};
 use crate::values::{as_hex, Ids};
 use crate::words::{
     CaveatVerb, HashWords, IssueWords, NarrowWords, RequestVerb, ScopeVerb, ShowWords, TableWords, Verb, VerifyWords,
 };
-use crate::{bundle, explain, files, library, make, names, pages, racks, show};
+use crate::{bundle, explain, files, library, make, names, pages, racks, records, request, show};
 
 /// The status that the command ends with.
 pub fn done(verb: Verb) -> Done<u8> {
@@ -26,15 +27,15 @@ pub fn done(verb: Verb) -> Done<u8> {
         Verb::Bundle(words) => bundle::made(&words).and_then(|bundle| words.out.put(&bundle)),
         Verb::Show(words) => return show(&words),
         Verb::Hash(words) => hash(&words),
-        Verb::Man => files::print(&pages::man()),
-        Verb::Completions { shell } => files::print(&pages::completions(shell)),
+        Verb::Man => out::print(&pages::man()),
+        Verb::Completions { shell } => out::print(&pages::completions(shell)),
     }
     .map(|()| 0)
 }
 
 fn table(words: &TableWords) -> Done<()> {
     let rows = make::rows(words)?;
-    let records = rows.iter().map(|row| make::row(&row.ids.tid, &row.ids.kid, &row.key));
+    let records = rows.iter().map(|row| records::row(&row.ids.tid, &row.ids.kid, &row.key));
     match records.collect::<Option<Vec<_>>>().map(|records| records.concat()) {
         Some(table) if library::table_is_good(&table) => words.out.put_table(&table, &words.from),
         _ => explain::table(&rows, TABLE_BAD),
@@ -42,7 +43,7 @@ fn table(words: &TableWords) -> Done<()> {
 }
 
 fn request(words: &RequestVerb) -> Done<()> {
-    let request = make::request(&words.request)?;
+    let request = request::made(&words.request)?;
     match library::request_answer(&request) {
         0 => words.out.put(&request),
         answer => explain::request(&words.request, answer),
@@ -109,7 +110,7 @@ fn narrow(words: &NarrowWords) -> Done<()> {
 }
 
 /// Narrows a token by caveats, one after the other, and writes its text. `names` are the token's and the table's.
-fn hand_out(table: &[u8], mut token: Vec<u8>, names: (&str, &str), caveats: &Caveats, out: &files::Out) -> Done<()> {
+fn hand_out(table: &[u8], mut token: Vec<u8>, names: (&str, &str), caveats: &Caveats, out: &Out) -> Done<()> {
     for (place, caveat) in numbered(&caveats.read()?) {
         token = match library::narrow(table, &token, &caveat.bytes()?) {
             Ok(child) => child,
@@ -123,7 +124,7 @@ fn hand_out(table: &[u8], mut token: Vec<u8>, names: (&str, &str), caveats: &Cav
 }
 
 /// Behind the text stands a newline, as people and shells expect of a line.
-fn put_text(mut token: Vec<u8>, out: &files::Out) -> Done<()> {
+fn put_text(mut token: Vec<u8>, out: &Out) -> Done<()> {
     token.push(b'\n');
     out.put(&token)
 }
@@ -132,7 +133,7 @@ fn verify(words: &VerifyWords) -> Done<u8> {
     let (token, what) = words.token.text()?;
     let request = match &words.file {
         Some(file) => files::read(file, files::REQUEST)?,
-        None => make::request(&words.request)?,
+        None => request::made(&words.request)?,
     };
     let table = files::read(&words.table, files::TABLE)?;
     let answer = archive::verify(&table, &request, &token);

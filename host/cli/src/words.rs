@@ -1,16 +1,16 @@
 //! The one description of the command line. What is taken, the help, the man page and the completions are all
 //! made from it.
 
-use std::net::Ipv4Addr;
 use std::path::PathBuf;
 
 use clap::{ArgGroup, Args, Parser, Subcommand};
 use clap_complete::Shell;
 
-use crate::bundle::Parts;
 use crate::caveats::Caveats;
-use crate::files::Out;
-use crate::values::{self, Hex, Ids, Methods, Rate, Row};
+use crate::out::Out;
+use crate::parts::Parts;
+use crate::request::{self, RequestWords};
+use crate::values::{self, Hex, Ids, Methods, Row};
 
 const VERSION: &str = concat!(env!("CARGO_PKG_VERSION"), ", proved with ", env!("BHINORPA_KIT"));
 
@@ -242,58 +242,6 @@ pub struct NarrowWords {
     pub out: Out,
 }
 
-/// The ids of the words of a request, which --request stands in the place of.
-const REQUEST: [&str; 11] = [
-    "method", "path", "tenant", "now", "body_size", "skew", "amnesia", "peer", "digest", "rate", "aud",
-];
-
-#[derive(Args, Clone, Debug, Default)]
-pub struct RequestWords {
-    /// What is asked for (needed)
-    #[arg(long, value_name = "METHOD", help_heading = "Request")]
-    pub method: Option<String>,
-
-    /// Of what (needed)
-    #[arg(long, value_name = "PATH", help_heading = "Request")]
-    pub path: Option<String>,
-
-    /// Who asks (needed)
-    #[arg(long, value_name = "TID", help_heading = "Request")]
-    pub tenant: Option<String>,
-
-    /// When; this moment if it is not said
-    #[arg(long, value_name = "TIME", value_parser = values::time, help_heading = "Request")]
-    pub now: Option<u64>,
-
-    /// How many bytes the body has; 0 if it is not said
-    #[arg(long, value_name = "N", value_parser = values::number, help_heading = "Request")]
-    pub body_size: Option<u64>,
-
-    /// How far clocks may be off, up to 300; 0 if it is not said
-    #[arg(long, value_name = "SECONDS", value_parser = values::skew, help_heading = "Request")]
-    pub skew: Option<u16>,
-
-    /// Whether the host is in amnesia mode; false if it is not said
-    #[arg(long, value_name = "true|false", value_parser = values::truth, help_heading = "Request")]
-    pub amnesia: Option<bool>,
-
-    /// The address that asks
-    #[arg(long, value_name = "10.1.2.3", value_parser = values::peer, help_heading = "Request")]
-    pub peer: Option<Ipv4Addr>,
-
-    /// The host's policy digest, 64 hex digits
-    #[arg(long, value_name = "DIGEST", value_parser = values::digest, help_heading = "Request")]
-    pub digest: Option<String>,
-
-    /// The rate that the host keeps to
-    #[arg(long, value_name = "PER_S,BURST", help_heading = "Request")]
-    pub rate: Option<Rate>,
-
-    /// The audience that the host is
-    #[arg(long, value_name = "TEXT", help_heading = "Request")]
-    pub aud: Option<String>,
-}
-
 #[derive(Args, Debug)]
 pub struct RequestVerb {
     #[command(flatten)]
@@ -313,7 +261,7 @@ pub struct VerifyWords {
     pub token: TokenWords,
 
     /// The request's file, in the place of its words
-    #[arg(id = "request", long = "request", value_name = "FILE", conflicts_with_all = REQUEST)]
+    #[arg(id = "request", long = "request", value_name = "FILE", conflicts_with_all = request::WORDS)]
     pub file: Option<PathBuf>,
 
     #[command(flatten)]

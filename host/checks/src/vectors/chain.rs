@@ -5,8 +5,8 @@ use second::base64url;
 use second::chain::{official, Chain};
 use serde_json::Value;
 
+use super::json::{file as file_of, hexed, object, text};
 use super::parts::{custom, fresh, idle, methods, row, scope_of, words, DIGEST, NEW_YEAR};
-use super::{file as file_of, hexed, object, text};
 use crate::cases::Case;
 use crate::tree::Node;
 use crate::trees::{caveat_of, rate};

@@ -2,8 +2,8 @@
 
 use serde_json::Value;
 
+use super::json::{answered, file as file_of, hexed, object};
 use super::parts::KEY;
-use super::{answered, file as file_of, hexed, object};
 
 /// The longest message that is taken.
 const LONGEST: usize = 8192;

@@ -2,8 +2,8 @@
 
 use serde_json::Value;
 
+use super::json::{answered, file as file_of, hexed, object, text};
 use super::parts::{fresh, methods, row, rows, scope, scope_of, words};
-use super::{answered, file as file_of, hexed, object, text};
 use crate::calls::characters;
 use crate::cases::Case;
 use crate::tables::{self, Row};

@@ -3,8 +3,8 @@
 use second::base64url;
 use serde_json::Value;
 
+use super::json::{answered, file as file_of, hexed, object, text};
 use super::parts::{custom, fresh, idle, methods, row, tree, words, NEW_YEAR};
-use super::{answered, file as file_of, hexed, object, text};
 use crate::calls::characters;
 use crate::cases::Case;
 use crate::tables;

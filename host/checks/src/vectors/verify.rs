@@ -2,8 +2,8 @@
 
 use serde_json::Value;
 
+use super::json::{answered, file as file_of, hexed, object, text};
 use super::parts::Verify;
-use super::{answered, file as file_of, hexed, object, text};
 use super::{verify_inputs, verify_maps, verify_order, verify_rules, verify_values};
 
 pub fn file() -> String {
