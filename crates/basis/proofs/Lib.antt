@@ -6,3 +6,4 @@ pub mod Powers
 pub mod Sameness
 pub mod Parts
 pub mod Picks
+pub mod Held

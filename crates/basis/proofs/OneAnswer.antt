@@ -2,8 +2,8 @@
 use mathlib.Core.Path.{_≡_, sym, _∙_}
 use mathlib.Core.Bool.{Bool}
 use mathlib.Core.List.{List}
-use Prim.Native.Nat.{ℕ, _+_, min}
-use lib.ListN.{length}
+use Prim.Native.Nat.{ℕ}
+use Rattle.basis.specs.declared.Span.{Span}
 use Rattle.basis.specs.Basis.{between, behind, partPlace, Written}
 use Rattle.basis.specs.Same.{sameOf}
 
@@ -21,10 +21,6 @@ same-one-answer x y p q = told p q
 pub lent : {x r q : List ℕ} {p a b : ℕ × ℕ} → (r ≡ x) × (a ≡ p) → (q ≡ x) × (b ≡ p) → (r ≡ q) × (a ≡ b)
 lent x y = (told (x .0) (y .0), told (x .1) (y .1))
 
-pub part-one-answer : (s : List ℕ) (from to : ℕ) (place : ℕ × ℕ) {r q : List ℕ} {a b : ℕ × ℕ} → (r ≡ between s from to) × (a ≡ behind place (partPlace s from to))
-    → (q ≡ between s from to) × (b ≡ behind place (partPlace s from to)) → (r ≡ q) × (a ≡ b)
-part-one-answer s from to place x y = lent x y
-
-pub run-one-answer : (s : List ℕ) (from n : ℕ) (place : ℕ × ℕ) {r q : List ℕ} {a b : ℕ × ℕ} → (r ≡ between s from (from + n)) × (a ≡ behind place (min from (length s)))
-    → (q ≡ between s from (from + n)) × (b ≡ behind place (min from (length s))) → (r ≡ q) × (a ≡ b)
-run-one-answer s from n place x y = lent x y
+pub lend-one-answer : (s : List ℕ) (part : Span) (place : ℕ × ℕ) {r q : List ℕ} {a b : ℕ × ℕ} → (r ≡ between s part) × (a ≡ behind place (partPlace s part))
+    → (q ≡ between s part) × (b ≡ behind place (partPlace s part)) → (r ≡ q) × (a ≡ b)
+lend-one-answer s part place x y = lent x y

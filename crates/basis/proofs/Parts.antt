@@ -6,7 +6,8 @@ use borrow.Author.Tests.{leb-true, leb-false, ltb-true, ltb-false, lt-ltb, le-lt
 use lib.Dec.{leb, ltb}
 use Prim.Native.Nat.{ℕ, _+_, _-_, _≤_, _<_, min}
 use native.Mathlib.Omega.{arith}
-use Rattle.basis.specs.Basis.{pick, between, behind, partPlace}
+use Rattle.basis.specs.declared.Span.{Span}
+use Rattle.basis.specs.Basis.{pick, fromTo, between, behind, partPlace}
 use lib.ListN.{length, take, drop, length-append, length-drop, drop-of-length-le}
 use lib.Seq.{drop-drop, drop-at, take-at, take-append-seam, drop-append-seam, take-all, take-nil}
 
@@ -21,7 +22,7 @@ pub on : (x : List ℕ) {a b c : List ℕ} → a ≡ x ++ b → b ≡ c → a �
 on x e f = e ∙ ap (λ (t : List ℕ). x ++ t) f
 
 -- the part itself
-pub lies : (s x t : List ℕ) (at : ℕ) → drop at s ≡ x ++ t → between s at (at + length x) ≡ x
+pub lies : (s x t : List ℕ) (at : ℕ) → drop at s ≡ x ++ t → between s (fromTo at (at + length x)) ≡ x
 lies s x t at e =
     let n : at + length x - at ≡ length x = omega arith in
     rw (n, e) (take-at x t (length x) refl)
@@ -37,17 +38,17 @@ one-front x y t e =
     sym (take-append-seam x t) ∙ ap (take (length x)) e ∙ ap (λ (k : ℕ). take k (y ++ t)) l ∙ take-append-seam y t
 
 -- a part by places that may lie anywhere
-pub no-part : (s : List ℕ) (from to end : ℕ) → end ≡ min to (length s) → end < from → [] ≡ between s from to
+pub no-part : (s : List ℕ) (from to end : ℕ) → end ≡ min to (length s) → end < from → [] ≡ between s (fromTo from to)
 no-part s from to end e h = by (leb (length s) from) refl
   where
-    by : (u : Bool) → leb (length s) from ≡ u → [] ≡ between s from to
+    by : (u : Bool) → leb (length s) from ≡ u → [] ≡ between s (fromTo from to)
     by true p = rw (drop-of-length-le s {i = from} (leb-true (length s) from p)) (sym (take-nil (to - from)))
     by false p = let z : to - from ≡ 0 = omega (arith, e, leb-false (length s) from p) in rw z
 
-pub some-part : (s : List ℕ) (from to end : ℕ) → end ≡ min to (length s) → from ≤ end → take (end - from) (drop from s) ≡ between s from to
+pub some-part : (s : List ℕ) (from to end : ℕ) → end ≡ min to (length s) → from ≤ end → take (end - from) (drop from s) ≡ between s (fromTo from to)
 some-part s from to end e h = by (leb to (length s)) refl
   where
-    by : (u : Bool) → leb to (length s) ≡ u → take (end - from) (drop from s) ≡ between s from to
+    by : (u : Bool) → leb to (length s) ≡ u → take (end - from) (drop from s) ≡ between s (fromTo from to)
     by true p = let z : end ≡ to = omega (arith, e, leb-true to (length s) p) in ap (λ (n : ℕ). take (n - from) (drop from s)) z
     by false p =
         let q = leb-false to (length s) p in
@@ -55,14 +56,11 @@ some-part s from to end e h = by (leb to (length s)) refl
         ∙ sym (take-all (to - from) (drop from s) (simp length-drop (omega (arith, e))))
 
 -- where it lies: at its first place, or at the beginning
-pub no-place : (s : List ℕ) (from to end : ℕ) → end ≡ min to (length s) → end < from → (p : ℕ × ℕ) → behind p 0 ≡ behind p (partPlace s from to)
+pub no-place : (s : List ℕ) (from to end : ℕ) → end ≡ min to (length s) → end < from → (p : ℕ × ℕ) → behind p 0 ≡ behind p (partPlace s (fromTo from to))
 no-place s from to end e h p = ap (behind p) (sym (ap (λ (b : Bool). pick b 0 from) (lt-ltb (min to (length s)) from (omega (arith, e, h)))))
 
-pub some-place : (s : List ℕ) (from to end : ℕ) → end ≡ min to (length s) → from ≤ end → (p : ℕ × ℕ) → behind p from ≡ behind p (partPlace s from to)
+pub some-place : (s : List ℕ) (from to end : ℕ) → end ≡ min to (length s) → from ≤ end → (p : ℕ × ℕ) → behind p from ≡ behind p (partPlace s (fromTo from to))
 some-place s from to end e h p = ap (behind p) (sym (ap (λ (b : Bool). pick b 0 from) (le-ltb (min to (length s)) from (omega (arith, e, h)))))
-
-pub run-place : (from n start : ℕ) → start ≡ min from n → (p : ℕ × ℕ) → behind (behind p start) 0 ≡ behind p (min from n)
-run-place from n start e p = ap (λ (k : ℕ). (p .0, k)) (omega (arith, e))
 
 -- from a place on; past the end nothing is left
 pub part-from : (s : List ℕ) (at from : ℕ) → from ≡ min at (length s) → take (length s - from) (drop from s) ≡ drop at s
@@ -82,9 +80,9 @@ take-least t n k e = by (ltb (length t) n) refl
     by false p = let x : k ≡ n = omega (arith, e, ltb-false (length t) n p) in ap (λ (i : ℕ). take i t) x
     by true p = let h = ltb-true (length t) n p in take-all k t (omega (arith, e)) ∙ sym (take-all n t (omega arith))
 
-pub run-part : (s : List ℕ) (from n start k : ℕ) → start ≡ min from (length s) → k ≡ min n (length (take (length s - start) (drop start s)))
-    → take (k - 0) (take (length s - start) (drop start s)) ≡ between s from (from + n)
-run-part s from n start k e f =
-    let x : from + n - from ≡ n = omega arith in
-    let y : k - 0 ≡ k = omega arith in
-    take-least (take (length s - start) (drop start s)) n (k - 0) (y ∙ f) ∙ ap (take n) (part-from s from start e) ∙ ap (λ (i : ℕ). take i (drop from s)) (sym x)
+-- parts that are the same begin and end alike
+pub begins-alike : {p q : Span} → p ≡ q → p .from ≡ q .from
+begins-alike e = ap (λ (p : Span). p .from) e
+
+pub ends-alike : {p q : Span} → p ≡ q → p .to ≡ q .to
+ends-alike e = ap (λ (p : Span). p .to) e

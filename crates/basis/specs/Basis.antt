@@ -8,6 +8,7 @@ use Prim.Native.Char.{code}
 use Prim.Native.String.{String, [] as none, _∷_ as _then_}
 use lib.ListN.{length, take, drop, getD}
 use lib.Dec.{leb, ltb}
+use Rattle.basis.specs.declared.Span.{Span}
 
 abbrev pub pick : {A : Type 0} → Bool → A → A → A
 pick true a b = a
@@ -22,17 +23,20 @@ ascii (c then s) = code c ∷ ascii s
 abbrev pub IsBytes : List ℕ → Type 0
 IsBytes s = (i : ℕ) → getD s i 0 < 256
 
--- the bytes from a place to another
-abbrev pub between : List ℕ → ℕ → ℕ → List ℕ
-between s from to = take (to - from) (drop from s)
+-- a part of a list by where it begins and where it ends, and the bytes that lie there
+abbrev pub fromTo : ℕ → ℕ → Span
+fromTo from to = record { from = from; to = to }
+
+abbrev pub between : List ℕ → Span → List ℕ
+between s part = take (part .to - part .from) (drop (part .from) s)
 
 -- where a part that is handed back lies: so many bytes behind the first of what it is a part of. A place in memory is a block and an offset in it
 abbrev pub behind : ℕ × ℕ → ℕ → ℕ × ℕ
 behind place n = (place .0, n + place .1)
 
--- from a place to another: at the first, or at the beginning where nothing lies between them
-abbrev pub partPlace : List ℕ → ℕ → ℕ → ℕ
-partPlace s from to = pick (ltb (min to (length s)) from) 0 from
+-- at its first byte, or at the beginning where nothing lies there
+abbrev pub partPlace : List ℕ → Span → ℕ
+partPlace s part = pick (ltb (min (part .to) (length s)) (part .from)) 0 (part .from)
 
 -- f 0, f 1, .., f (n - 1)
 unfoldable pub tab : ℕ → (ℕ → ℕ) → List ℕ

@@ -1,9 +1,20 @@
 // What every crate needs of bytes and lent room, and the words that the definitions share.
 ghost use mathlib.Core.Path.{_≡_};
-ghost use Prim.Native.Nat.{_+_, min};
-ghost use lib.ListN.{length};
+ghost use Prim.Native.Nat.{min};
 ghost use Rattle.basis.specs.Basis.{between, behind, partPlace, Written};
 ghost use Rattle.basis.specs.Same.{sameOf};
+
+// A part of a slice, by where it begins and where it ends.
+pub struct Span {
+    pub from: usize,
+    pub to: usize,
+}
+
+// A part that may be absent.
+pub enum Part {
+    Absent,
+    At { span: Span },
+}
 
 // The smaller of two counts.
 pub fn least(a: usize, b: usize) -> usize
@@ -39,24 +50,15 @@ pub fn same(x: &[u8], y: &[u8]) -> bool
     true
 }
 
-// The bytes from a place to another, as far as there are any: for places that were told by someone else.
-pub fn part<'a>(s: &'a [u8], from: usize, to: usize) -> &'a [u8]
-    ensures { λ r. ⌜ now r ≡ between (now (s .entry)) from to ⌝ }
-    ensures { λ r. ⌜ r .ptr ≡ behind (s .entry .ptr) (partPlace (now (s .entry)) from to) ⌝ }
+// The bytes of a part, as far as there are any: for places that were told by someone else.
+pub fn lend<'a>(s: &'a [u8], span: Span) -> &'a [u8]
+    ensures { λ r. ⌜ now r ≡ between (now (s .entry)) span ⌝ }
+    ensures { λ r. ⌜ r .ptr ≡ behind (s .entry .ptr) (partPlace (now (s .entry)) span) ⌝ }
 {
-    let end = least(to, s.len());
+    let from = span.from;
+    let end = least(span.to, s.len());
     if end < from {
         return &s[0..0];
     }
     &s[from..end]
-}
-
-// So many bytes from a place on, as far as there are any.
-pub fn run<'a>(s: &'a [u8], from: usize, n: usize) -> &'a [u8]
-    ensures { λ r. ⌜ now r ≡ between (now (s .entry)) from (from + n) ⌝ }
-    ensures { λ r. ⌜ r .ptr ≡ behind (s .entry .ptr) (min from (length (now (s .entry)))) ⌝ }
-{
-    let start = least(from, s.len());
-    let rest = &s[start..];
-    &rest[0..least(n, rest.len())]
 }

@@ -9,26 +9,26 @@ use Rattle.basis.specs.Basis.{IsBytes}
 use Rattle.basis.proofs.All.{all}
 use Rattle.token_scope.specs.Scopes.{Scope}
 use Rattle.records_table.specs.Tables.{Row, hasRow, keyIn}
-use Rattle.outcome.specs.Handing.{Handed, answerOf, Handing}
+use Rattle.outcome.specs.Decisions.{Decision, answerOf, Carried}
 use Rattle.outcome.specs.declared.Outcome.{Outcome}
 use Rattle.issue.specs.Issuing.{issueOf}
 use Rattle.issue.proofs.Fresh.{known-named}
 use Rattle.issue.proofs.OneAnswer.{issue-one-answer}
 use Rattle.bhinorpa.specs.Allowed.{TableOf, tokenText, caveatBytes, chainTag}
-use Rattle.bhinorpa.specs.Handouts.{ScopeOf, Grant, freshToken, Issued}
+use Rattle.bhinorpa.specs.NewTokens.{ScopeOf, Grant, freshToken, Issued}
 use Rattle.bhinorpa.specs.Verdicts.{out-short, done, IssueVerdict, issue-table-bad, issue-scope-bad, issue-kid-unknown, issue-grants, oneOf, issueAnswers}
 use Rattle.bhinorpa.specs.Demands.{IssueList, IssueFirstFailing, IssueVerdictOne, IdsOfRows, IssueRefusals, IssueWrites}
 use Rattle.bhinorpa.proofs.Lists.{listed}
 use Rattle.bhinorpa.proofs.Rooms.{refuses, refuses-back, in-room, in-room-back, wrote}
 use Rattle.bhinorpa.proofs.Tables.{TableIs, no-table, one-table, table-is}
 use Rattle.bhinorpa.proofs.Items.{ScopeIs, no-scope, one-scope, scope-is, scope-few}
-use Rattle.bhinorpa.proofs.Handouts.{fresh-canonical}
+use Rattle.bhinorpa.proofs.NewTokens.{fresh-canonical}
 use Rattle.bhinorpa.proofs.IssueIs.{issue-no-table, issue-defect, issue-unknown, issue-granted}
 
 pub issue-first-failing : IssueFirstFailing
 issue-first-failing table tid kid bytes bt bb entry outcome exit w = by-table (table-is table bt)
   where
-    h : Handed
+    h : Decision
     h = issueOf table tid kid bytes
 
     by-row : (rows : List Row) → TableOf table rows → (scope : Scope) → ScopeOf bytes scope → (b : Bool) → hasRow rows tid kid ≡ b → IssueVerdict table tid kid bytes entry outcome exit
@@ -47,10 +47,10 @@ issue-first-failing table tid kid bytes bt bb entry outcome exit w = by-table (t
 
 -- a verdict is what the contract says
 module _ (table tid kid bytes : List ℕ) (bt : IsBytes table) (entry : List ℕ) (outcome : Outcome) (exit : List ℕ) where
-  abbrev out : Handed
+  abbrev out : Decision
   out = issueOf table tid kid bytes
 
-  verdict-is : IssueVerdict table tid kid bytes entry outcome exit → Handing (issueOf table tid kid bytes) entry outcome exit
+  verdict-is : IssueVerdict table tid kid bytes entry outcome exit → Carried (issueOf table tid kid bytes) entry outcome exit
   verdict-is (issue-table-bad h r) = refuses-back out entry outcome exit 1 (issue-no-table table tid kid bytes bt h) r
   verdict-is (issue-scope-bad rows t n d r) = refuses-back out entry outcome exit n (issue-defect table tid kid bytes rows t n d) r
   verdict-is (issue-kid-unknown rows t scope s k r) = refuses-back out entry outcome exit 7 (issue-unknown table tid kid bytes rows t scope s k) r
@@ -76,7 +76,7 @@ ids-of-rows rows g tid kid e = let n = known-named rows g tid kid e in (n .good-
 
 pub issue-refusals : IssueRefusals
 issue-refusals table tid kid bytes rows scope g entry outcome exit w =
-    w .answer ∙ ap (λ (h : Handed). answerOf h (length entry)) (issue-granted table tid kid bytes rows scope g)
+    w .answer ∙ ap (λ (h : Decision). answerOf h (length entry)) (issue-granted table tid kid bytes rows scope g)
 
 fresh-tagged : (rows : List Row) (scope : Scope) (tid kid : List ℕ) → chainTag (keyIn rows tid kid) (freshToken rows scope tid kid) ≡ freshToken rows scope tid kid .tag
 unfolding caveatBytes

@@ -15,12 +15,12 @@ use Rattle.basis.proofs.Sameness.{same-equal, equal-same}
 use Rattle.token_caveat.specs.Caveats.{Caveat}
 use Rattle.token.specs.Tokens.{Token, encodeToken}
 use Rattle.records_table.specs.Tables.{Row, hasRow}
-use Rattle.outcome.specs.Handing.{Handed, refused, handed, answerOf, Handing}
+use Rattle.outcome.specs.Decisions.{Decision, refused, granted, answerOf, Carried}
 use Rattle.outcome.specs.declared.Outcome.{Outcome}
 use Rattle.narrow.specs.Narrowing.{narrowOf}
 use Rattle.narrow.proofs.OneAnswer.{narrow-one-answer}
 use Rattle.bhinorpa.specs.Allowed.{TableOf, tokenText, Canonical, chainTag, keyFor}
-use Rattle.bhinorpa.specs.Handouts.{CaveatOf, Parent, childToken}
+use Rattle.bhinorpa.specs.NewTokens.{CaveatOf, Parent, childToken}
 use Rattle.bhinorpa.specs.Verdicts.{RoomVerdict, out-short, done, NarrowVerdict, narrow-table-bad, narrow-no-token, narrow-kid-unknown, narrow-mac, narrow-caveat-bad, narrow-full, narrow-size-full, narrow-child, oneOf, narrowAnswers}
 use Rattle.bhinorpa.specs.Demands.{NarrowList, NarrowFirstFailing, NarrowVerdictOne, NarrowWrites, NarrowingRefusals}
 use Rattle.bhinorpa.proofs.Lists.{listed}
@@ -28,14 +28,14 @@ use Rattle.bhinorpa.proofs.Rooms.{refuses, refuses-back, in-room, in-ro
 use Rattle.bhinorpa.proofs.Tables.{TableIs, no-table, one-table, table-is}
 use Rattle.bhinorpa.proofs.Texts.{TextIs, no-token, one-token, text-is, defect-few}
 use Rattle.bhinorpa.proofs.Items.{CaveatIs, no-caveat, one-caveat, caveat-is, caveat-few}
-use Rattle.bhinorpa.proofs.Handouts.{child-canonical, child-tagged}
-use Rattle.bhinorpa.proofs.NarrowIs.{narrow-no-table, narrow-defect, narrow-unknown, narrow-other-tag, narrow-caveat-defect, narrow-is-full, narrow-sized, narrow-too-large, narrow-handed}
+use Rattle.bhinorpa.proofs.NewTokens.{child-canonical, child-tagged}
+use Rattle.bhinorpa.proofs.NarrowIs.{narrow-no-table, narrow-defect, narrow-unknown, narrow-other-tag, narrow-caveat-defect, narrow-is-full, narrow-sized, narrow-too-large, narrow-granted}
 
-module _ (table text bytes : List ℕ) (bt : IsBytes table) (bb : IsBytes bytes) (entry : List ℕ) (outcome : Outcome) (exit : List ℕ) (w : Handing (narrowOf table text bytes) entry outcome exit) where
+module _ (table text bytes : List ℕ) (bt : IsBytes table) (bb : IsBytes bytes) (entry : List ℕ) (outcome : Outcome) (exit : List ℕ) (w : Carried (narrowOf table text bytes) entry outcome exit) where
   abbrev Is : Type 0
   Is = NarrowVerdict table text bytes entry outcome exit
 
-  abbrev h : Handed
+  abbrev h : Decision
   h = narrowOf table text bytes
 
   -- behind the tag
@@ -47,7 +47,7 @@ module _ (table text bytes : List ℕ) (bt : IsBytes table) (bb : IsBytes bytes)
     by-size added a l false q =
         let g = ltb-false 4096 (length (encodeToken (childToken rows token added))) q in
         narrow-child rows token p added a l g
-        (in-room h entry outcome exit (tokenText (childToken rows token added)) (narrow-handed table text bytes rows token p added a l g) w)
+        (in-room h entry outcome exit (tokenText (childToken rows token added)) (narrow-granted table text bytes rows token p added a l g) w)
 
     by-count : (added : Caveat) → CaveatOf bytes added → (b : Bool) → eqb (length (token .caveats)) 64 ≡ b → Is
     by-count added a true q =
@@ -90,10 +90,10 @@ narrow-first-failing table text bytes bt bb entry outcome exit w = by-table tabl
 
 -- a verdict is what the contract says
 module _ (table text bytes : List ℕ) (bt : IsBytes table) (entry : List ℕ) (outcome : Outcome) (exit : List ℕ) where
-  abbrev out : Handed
+  abbrev out : Decision
   out = narrowOf table text bytes
 
-  verdict-is : NarrowVerdict table text bytes entry outcome exit → Handing (narrowOf table text bytes) entry outcome exit
+  verdict-is : NarrowVerdict table text bytes entry outcome exit → Carried (narrowOf table text bytes) entry outcome exit
   verdict-is (narrow-table-bad h r) = refuses-back out entry outcome exit 1 (narrow-no-table table text bytes bt h) r
   verdict-is (narrow-no-token rows t n d r) = refuses-back out entry outcome exit n (narrow-defect table text bytes rows t n d) r
   verdict-is (narrow-kid-unknown rows t token c k r) = refuses-back out entry outcome exit 7 (narrow-unknown table text bytes rows t token c k) r
@@ -102,7 +102,7 @@ module _ (table text bytes : List ℕ) (bt : IsBytes table) (entry : List ℕ) (
   verdict-is (narrow-full rows token p added a f r) = refuses-back out entry outcome exit 34 (narrow-is-full table text bytes rows token p added a f) r
   verdict-is (narrow-size-full rows token p added a l g r) = refuses-back out entry outcome exit 35 (narrow-too-large table text bytes rows token p added a l g) r
   verdict-is (narrow-child rows token p added a l g o) =
-      in-room-back out entry outcome exit (tokenText (childToken rows token added)) (narrow-handed table text bytes rows token p added a l g) o
+      in-room-back out entry outcome exit (tokenText (childToken rows token added)) (narrow-granted table text bytes rows token p added a l g) o
 
 pub narrow-verdict-one : NarrowVerdictOne
 narrow-verdict-one table text bytes bt entry first second left right v w =
@@ -134,7 +134,7 @@ pub record Child (table text bytes entry : List ℕ) (outcome : Outcome) (exit :
   pub room : RoomVerdict (tokenText (childToken rows token added)) entry outcome exit
 
 pub child-of : (table text bytes : List ℕ) → IsBytes table → IsBytes bytes → (entry : List ℕ) (outcome : Outcome) (exit : List ℕ)
-    → Handing (narrowOf table text bytes) entry outcome exit → outcome .answer ≡ 0 → Child table text bytes entry outcome exit
+    → Carried (narrowOf table text bytes) entry outcome exit → outcome .answer ≡ 0 → Child table text bytes entry outcome exit
 child-of table text bytes bt bb entry outcome exit w z = by (narrow-first-failing table text bytes bt bb entry outcome exit w)
   where
     refused-not : (n : ℕ) → outcome .answer ≡ n → 1 ≤ n → Child table text bytes entry outcome exit
@@ -179,10 +179,10 @@ narrowing-refusals table text bytes rows token p added a entry outcome exit w =
     child : Token
     child = childToken rows token added
 
-    answer : Handed → ℕ
+    answer : Decision → ℕ
     answer h = answerOf h (length entry)
 
-    sized-answer : (b : Bool) → answer (pick b (refused 35) (handed (tokenText child))) ≡ pick b 35 (pick (leb (length (tokenText child)) (length entry)) 0 36)
+    sized-answer : (b : Bool) → answer (pick b (refused 35) (granted (tokenText child))) ≡ pick b 35 (pick (leb (length (tokenText child)) (length entry)) 0 36)
     sized-answer true = refl
     sized-answer false = refl
 

@@ -13,10 +13,10 @@ use Rattle.records_table.specs.Tables.{Row}
 use Rattle.records_request.specs.Requests.{Request}
 use Rattle.rules.specs.Holding.{caveatHolds}
 use Rattle.bhinorpa.specs.Allowed.{tokenText, Canonical, chainTag, keyFor, EachHolds, AllHold, Allowed}
-use Rattle.bhinorpa.specs.Handouts.{childToken}
+use Rattle.bhinorpa.specs.NewTokens.{childToken}
 use Rattle.bhinorpa.specs.Demands.{NarrowingExact}
-use Rattle.bhinorpa.proofs.Handouts.{child-tagged}
-use Rattle.bhinorpa.proofs.Rooms.{handed-text, front-text}
+use Rattle.bhinorpa.proofs.NewTokens.{child-tagged}
+use Rattle.bhinorpa.proofs.Rooms.{granted-text, front-text}
 use Rattle.bhinorpa.proofs.DemandsVerify.{allowed-exactly}
 use Rattle.bhinorpa.proofs.DemandsNarrow.{child-of}
 
@@ -77,7 +77,7 @@ narrowing-exact table text bytes bt bb entry outcome exit w z =
     let added = c .added in
     let p = c .parent in
     let child = childToken rows token added in
-    let left = front-text (tokenText child) entry outcome exit (handed-text (tokenText child) entry outcome exit (c .room) z .1) in
+    let left = front-text (tokenText child) entry outcome exit (granted-text (tokenText child) entry outcome exit (c .room) z .1) in
     let k : Canonical (take (outcome .length) exit) child = subst (λ (x : List ℕ). Canonical x child) (sym left) (c .canonical) in
     let down : (asked : Request) → Allowed rows asked (take (outcome .length) exit) → Allowed rows asked text × (caveatHolds asked (token .tid) added ≡ true) =
     λ asked a.

@@ -17,26 +17,26 @@ use Rattle.token_caveat.specs.Caveats.{Caveat, encodeCaveat, GoodCaveat}
 use Rattle.token.specs.Tokens.{Token, encodeCaveats, tokenBytes, encodeToken, AllCaveats}
 use Rattle.token.proofs.WritingLaws.{caveats-behind}
 use Rattle.records_table.specs.Tables.{Row}
-use Rattle.outcome.specs.Handing.{Handed, handed, Handing}
+use Rattle.outcome.specs.Decisions.{Decision, granted, Carried}
 use Rattle.outcome.proofs.Sizes.{short-text}
 use Rattle.issue.specs.Issuing.{issueOf}
 use Rattle.narrow.specs.Narrowing.{narrowOf}
 use Rattle.bhinorpa.specs.Allowed.{tokenText, Canonical, caveatBytes, keyFor}
-use Rattle.bhinorpa.specs.Handouts.{CaveatOf, Grant, Parent, childToken, Call, leftBy, Narrowings, lastOf, AllDone}
+use Rattle.bhinorpa.specs.NewTokens.{CaveatOf, Grant, Parent, childToken, Call, leftBy, Narrowings, lastOf, AllDone}
 use Rattle.bhinorpa.specs.Verdicts.{RoomVerdict, out-short, done}
 use Rattle.bhinorpa.specs.Demands.{Rebuilt, RoomEnough}
 use Rattle.bhinorpa.proofs.AreBytes.{front-bytes, token-bytes, parts-bytes}
-use Rattle.bhinorpa.proofs.Handouts.{tag-bytes, caveats-one-more}
+use Rattle.bhinorpa.proofs.NewTokens.{tag-bytes, caveats-one-more}
 use Rattle.bhinorpa.proofs.Rooms.{in-room, front-text}
 use Rattle.bhinorpa.proofs.IssueIs.{issue-granted}
-use Rattle.bhinorpa.proofs.NarrowIs.{narrow-handed}
+use Rattle.bhinorpa.proofs.NarrowIs.{narrow-granted}
 
 pub room-enough : RoomEnough
 room-enough text token c = subst (λ (x : List ℕ). length x ≤ 5462) (sym (c .written)) (short-text (encodeToken token) (c .short))
 
 -- a call that hands out a text leaves it in a room that is always enough
-left-text : (h : Handed) (text : List ℕ) → h ≡ handed text → length text ≤ 5462 → (call : Call) → 5462 ≤ length (call .entry)
-    → Handing h (call .entry) (call .outcome) (call .exit) → (call .outcome .answer ≡ 0) × (leftBy call ≡ text)
+left-text : (h : Decision) (text : List ℕ) → h ≡ granted text → length text ≤ 5462 → (call : Call) → 5462 ≤ length (call .entry)
+    → Carried h (call .entry) (call .outcome) (call .exit) → (call .outcome .answer ≡ 0) × (leftBy call ≡ text)
 left-text h text e l call enough w = by (in-room h (call .entry) (call .outcome) (call .exit) text e w)
   where
     by : RoomVerdict text (call .entry) (call .outcome) (call .exit) → (call .outcome .answer ≡ 0) × (leftBy call ≡ text)
@@ -139,15 +139,15 @@ module _ (table text : List ℕ) (rows : List Row) (t : Token) (p : Parent table
   abbrev out : List Caveat → List ℕ
   out before = tokenText (part rows t before)
 
-  granted : Grant table (t .tid) (t .kid) (encodeScope (t .scope)) rows (t .scope)
-  granted = record { table-is = p .table-is; scope-is = record { good = p .canonical .good .good-scope; written = refl }; known = p .known }
+  is-grant : Grant table (t .tid) (t .kid) (encodeScope (t .scope)) rows (t .scope)
+  is-grant = record { table-is = p .table-is; scope-is = record { good = p .canonical .good .good-scope; written = refl }; known = p .known }
 
-  issued-first : issueOf table (t .tid) (t .kid) (encodeScope (t .scope)) ≡ handed (out [])
+  issued-first : issueOf table (t .tid) (t .kid) (encodeScope (t .scope)) ≡ granted (out [])
   unfolding caveatBytes
-  issued-first = issue-granted table (t .tid) (t .kid) (encodeScope (t .scope)) rows (t .scope) granted
+  issued-first = issue-granted table (t .tid) (t .kid) (encodeScope (t .scope)) rows (t .scope) is-grant
 
   narrowed-next : (before : List Caveat) (c : Caveat) (rest : List Caveat) → t .caveats ≡ before ++ (c ∷ rest)
-      → narrowOf table (out before) (encodeCaveat c) ≡ handed (out (before ++ (c ∷ [])))
+      → narrowOf table (out before) (encodeCaveat c) ≡ granted (out (before ++ (c ∷ [])))
   narrowed-next before c rest e =
       let w = p .canonical in
       let u = part rows t before in
@@ -157,8 +157,8 @@ module _ (table text : List ℕ) (rows : List Row) (t : Token) (p : Parent table
       let few : length before < 64 = omega (arith, counted rows text t w before (c ∷ rest) e, w .good .few) in
       let same = one-more rows text t w before c in
       let short = part-short rows text t w (before ++ (c ∷ [])) rest (e ∙ sym (append-assoc before (c ∷ []) rest)) in
-      narrow-handed table (out before) (encodeCaveat c) rows u parent c added few (subst (λ (v : Token). length (encodeToken v) ≤ 4096) (sym same) short)
-      ∙ ap (λ (v : Token). handed (tokenText v)) same
+      narrow-granted table (out before) (encodeCaveat c) rows u parent c added few (subst (λ (v : Token). length (encodeToken v) ≤ 4096) (sym same) short)
+      ∙ ap (λ (v : Token). granted (tokenText v)) same
 
   out-short-enough : (before rest : List Caveat) → t .caveats ≡ before ++ rest → length (out before) ≤ 5462
   out-short-enough before rest e = room-enough (out before) (part rows t before) (part-canonical rows text t (p .canonical) before rest e)
@@ -172,8 +172,8 @@ module _ (table text : List ℕ) (rows : List Row) (t : Token) (p : Parent table
   narrowed-rest (c ∷ rest) before e first l [] n = elim n [ ]
   narrowed-rest (c ∷ rest) before e first l (call ∷ calls) n =
       let f = e ∙ sym (append-assoc before (c ∷ []) rest) in
-      let handed-on = ap (λ (x : List ℕ). narrowOf table x (encodeCaveat c)) l ∙ narrowed-next before c rest e in
-      let k = left-text (narrowOf table (leftBy first) (encodeCaveat c)) (out (before ++ (c ∷ []))) handed-on (out-short-enough (before ++ (c ∷ [])) rest f) call (n .0) (n .1) in
+      let next-granted = ap (λ (x : List ℕ). narrowOf table x (encodeCaveat c)) l ∙ narrowed-next before c rest e in
+      let k = left-text (narrowOf table (leftBy first) (encodeCaveat c)) (out (before ++ (c ∷ []))) next-granted (out-short-enough (before ++ (c ∷ [])) rest f) call (n .0) (n .1) in
       let m = narrowed-rest rest (before ++ (c ∷ [])) f call (k .1) calls (n .2) in
       ((k .0, m .0), m .1)
 

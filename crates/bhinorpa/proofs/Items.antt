@@ -8,16 +8,16 @@ use Rattle.basis.specs.Basis.{IsBytes}
 use Rattle.token_scope.specs.Scopes.{Scope, encodeScope, GoodScope}
 use Rattle.token_scope.specs.Reading.{scopeOf}
 use Rattle.token_scope.specs.declared.ScopeParts.{ScopeParts}
-use Rattle.token_scope.specs.declared.ScopeParts.the-variants.{Of as ScopeAt, Bad as NoScope}
+use Rattle.token_scope.specs.declared.ScopeParts.the-variants.{Of as ScopeFound, Bad as NoScope}
 use Rattle.token_scope.proofs.ScopeRead.{scope-read}
 use Rattle.token_scope.proofs.DefectKinds.{scope-kind}
 use Rattle.token_caveat.specs.Caveats.{Caveat, encodeCaveat, GoodCaveat}
 use Rattle.token_caveat.specs.Reading.{caveatOf}
 use Rattle.token_caveat_values.specs.declared.CaveatParts.{CaveatParts}
-use Rattle.token_caveat_values.specs.declared.CaveatParts.the-variants.{Of as CaveatAt, Bad as NoCaveat}
+use Rattle.token_caveat_values.specs.declared.CaveatParts.the-variants.{Of as CaveatFound, Bad as NoCaveat}
 use Rattle.token_caveat.proofs.CaveatLaws.{caveat-read}
 use Rattle.token_caveat.proofs.DefectKinds.{caveat-kind}
-use Rattle.bhinorpa.specs.Handouts.{ScopeOf, CaveatOf}
+use Rattle.bhinorpa.specs.NewTokens.{ScopeOf, CaveatOf}
 use Rattle.bhinorpa.specs.Verdicts.{ScopeDefect, scope-unreadable, scope-left-over, CaveatDefect, caveat-unreadable, caveat-left-over}
 
 -- an item at the front of bytes: it is all of them, or something is left
@@ -44,7 +44,7 @@ scope-is bytes b = by (scopeOf bytes 0) refl
 
     by : (p : ScopeParts) → scopeOf bytes 0 ≡ p → ScopeIs bytes
     by (NoScope n at) e = no-scope n (scope-unreadable at e)
-    by (ScopeAt prefix count from to limit next) e = let r = scope-read bytes b 0 e in by-rest (r .tree) (r .good) (drop next bytes) (r .there)
+    by (ScopeFound parts next) e = let r = scope-read bytes b 0 e in by-rest (r .tree) (r .good) (drop next bytes) (r .there)
 
 pub data CaveatIs (bytes : List ℕ) : Type 0 where
   no-caveat : (n : ℕ) → CaveatDefect bytes n → CaveatIs bytes
@@ -59,7 +59,7 @@ caveat-is bytes b = by (caveatOf bytes) refl
 
     by : (p : CaveatParts) → caveatOf bytes ≡ p → CaveatIs bytes
     by (NoCaveat n at) e = no-caveat n (caveat-unreadable at e)
-    by (CaveatAt part next) e = let r = caveat-read bytes b e in by-rest (r .tree) (r .good) (drop next bytes) (r .there)
+    by (CaveatFound part next) e = let r = caveat-read bytes b e in by-rest (r .tree) (r .good) (drop next bytes) (r .there)
 
 -- a defect's number is 4, 5 or 6
 pub scope-few : (bytes : List ℕ) (n : ℕ) → ScopeDefect bytes n → (4 ≤ n) × (n ≤ 6)

@@ -4,11 +4,12 @@ pub mod Rooms
 pub mod Tables
 pub mod Texts
 pub mod Items
+pub mod Walks
 pub mod Judged
 pub mod VerifyIs
 pub mod DemandsVerify
 pub mod Parents
-pub mod Handouts
+pub mod NewTokens
 pub mod IssueIs
 pub mod DemandsIssue
 pub mod NarrowIs

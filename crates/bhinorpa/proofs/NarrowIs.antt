@@ -18,20 +18,20 @@ use Rattle.token_caveat.proofs.CaveatLaws.{caveat-written}
 use Rattle.token.specs.Tokens.{Token, encodeToken}
 use Rattle.token.proofs.WritingLaws.{child-written}
 use Rattle.records_table.specs.Tables.{Row, hasRow}
-use Rattle.outcome.specs.Handing.{refused, handed}
-use Rattle.narrow_child.specs.Growing.{sized}
-use Rattle.narrow.specs.Narrowing.{tokenThen, bytesThen, decodedThen, textThen, narrowOf}
+use Rattle.outcome.specs.Decisions.{refused, granted}
+use Rattle.narrow_child.specs.Child.{sized}
+use Rattle.narrow.specs.Narrowing.{tokenNarrowed, bytesNarrowed, decodedNarrowed, textNarrowed, narrowOf}
 use Rattle.narrow.proofs.Narrowed.{narrow-too-long, narrow-bad-table, narrow-good-table}
 use Rattle.bhinorpa.specs.Allowed.{TableOf, tokenText, Canonical, chainTag, keyFor}
-use Rattle.bhinorpa.specs.Handouts.{CaveatOf, Parent, childToken}
+use Rattle.bhinorpa.specs.NewTokens.{CaveatOf, Parent, childToken}
 use Rattle.bhinorpa.specs.Verdicts.{NoTable, TextDefect, CaveatDefect, caveat-unreadable, caveat-left-over}
 use Rattle.bhinorpa.proofs.Tables.{good-table, bad-table}
 use Rattle.bhinorpa.proofs.Texts.{bytes-few, Unread, unread-long, unread-fault, unread-bytes, defect-unread}
 use Rattle.bhinorpa.proofs.Items.{all-left}
 use Rattle.bhinorpa.proofs.Parents.{addTree, narrowTree, narrow-canonical}
 
-unread-refused : (table text bytes : List ℕ) (n : ℕ) → Unread text n → textThen table text bytes ≡ refused n
-unfolding textThen decodedOf decodedThen bytesThen tokenThen
+unread-refused : (table text bytes : List ℕ) (n : ℕ) → Unread text n → textNarrowed table text bytes ≡ refused n
+unfolding textNarrowed decodedOf decodedNarrowed bytesNarrowed tokenNarrowed
 unread-refused table text bytes n (unread-long l e) = sym (narrow-too-long table text bytes l) ∙ ap refused (sym e)
 unread-refused table text bytes n (unread-fault l at j e) = rw (le-ltb 5462 (length text) l, j) (ap refused (sym e))
 unread-refused table text bytes n (unread-bytes l k j at f) = rw (le-ltb 5462 (length text) l, j, le-leb k 4096 (bytes-few text j l), f)
@@ -88,13 +88,13 @@ module _ (table text bytes : List ℕ) where
       narrow-is-full e = narrow-good ∙ rw (le-leb 64 (length (token .caveats)) (omega (arith, e)))
 
       pub narrow-sized : length (token .caveats) < 64
-          → narrowOf table text bytes ≡ pick (ltb 4096 (length (encodeToken (childToken rows token added)))) (refused 35) (handed (tokenText (childToken rows token added)))
+          → narrowOf table text bytes ≡ pick (ltb 4096 (length (encodeToken (childToken rows token added)))) (refused 35) (granted (tokenText (childToken rows token added)))
       unfolding sized
       narrow-sized l = narrow-good ∙ rw (lt-leb 64 (length (token .caveats)) l)
 
       pub narrow-too-large : length (token .caveats) < 64 → 4096 < length (encodeToken (childToken rows token added)) → narrowOf table text bytes ≡ refused 35
       narrow-too-large l g = narrow-sized l ∙ rw (lt-ltb 4096 (length (encodeToken (childToken rows token added))) g)
 
-      pub narrow-handed : length (token .caveats) < 64 → length (encodeToken (childToken rows token added)) ≤ 4096
-          → narrowOf table text bytes ≡ handed (tokenText (childToken rows token added))
-      narrow-handed l g = narrow-sized l ∙ rw (le-ltb 4096 (length (encodeToken (childToken rows token added))) g)
+      pub narrow-granted : length (token .caveats) < 64 → length (encodeToken (childToken rows token added)) ≤ 4096
+          → narrowOf table text bytes ≡ granted (tokenText (childToken rows token added))
+      narrow-granted l g = narrow-sized l ∙ rw (le-ltb 4096 (length (encodeToken (childToken rows token added))) g)

@@ -1,4 +1,4 @@
--- What is handed out and what the room holds then: the contract's words (`Handing`) and the verdicts' (`Refuses`, `RoomVerdict`) are one.
+-- What is handed out and what the room holds then: the contract's words (`Carried`) and the verdicts' (`Refuses`, `RoomVerdict`) are one.
 use mathlib.Core.Path.{_≡_, refl, sym, ap, subst, _∙_}
 use mathlib.Core.Bool.{Bool, true, false}
 use mathlib.Core.List.{List}
@@ -11,27 +11,27 @@ use lib.Seq.{take-at}
 use Rattle.basis.specs.Basis.{pick, over}
 use Rattle.text_writing.proofs.Writings.{text-length}
 use Rattle.token.specs.Tokens.{Token, encodeToken}
-use Rattle.outcome.specs.Handing.{Handed, refused, handed, Handing}
+use Rattle.outcome.specs.Decisions.{Decision, refused, granted, Carried}
 use Rattle.outcome.specs.declared.Outcome.{Outcome}
 use Rattle.bhinorpa.specs.Allowed.{tokenText, Canonical}
-use Rattle.bhinorpa.specs.Handouts.{Wrote}
+use Rattle.bhinorpa.specs.NewTokens.{Wrote}
 use Rattle.bhinorpa.specs.Verdicts.{Refuses, Writes, RoomVerdict, out-short, done}
 use Rattle.bhinorpa.specs.Demands.{RefusalWritesNothing}
 
-module _ (h : Handed) (entry : List ℕ) (outcome : Outcome) (exit : List ℕ) where
-  pub refuses : (n : ℕ) → h ≡ refused n → Handing h entry outcome exit → Refuses n entry outcome exit
+module _ (h : Decision) (entry : List ℕ) (outcome : Outcome) (exit : List ℕ) where
+  pub refuses : (n : ℕ) → h ≡ refused n → Carried h entry outcome exit → Refuses n entry outcome exit
   refuses n e w =
-      let v : Handing (refused n) entry outcome exit = subst (λ x. Handing x entry outcome exit) e w in
+      let v : Carried (refused n) entry outcome exit = subst (λ x. Carried x entry outcome exit) e w in
       record { answer = v .answer; count = v .count; content = v .content }
 
-  pub refuses-back : (n : ℕ) → h ≡ refused n → Refuses n entry outcome exit → Handing h entry outcome exit
+  pub refuses-back : (n : ℕ) → h ≡ refused n → Refuses n entry outcome exit → Carried h entry outcome exit
   refuses-back n e r =
-      let v : Handing (refused n) entry outcome exit = record { answer = r .answer; count = r .count; content = r .content } in
-      subst (λ x. Handing x entry outcome exit) (sym e) v
+      let v : Carried (refused n) entry outcome exit = record { answer = r .answer; count = r .count; content = r .content } in
+      subst (λ x. Carried x entry outcome exit) (sym e) v
 
-  pub in-room : (text : List ℕ) → h ≡ handed text → Handing h entry outcome exit → RoomVerdict text entry outcome exit
+  pub in-room : (text : List ℕ) → h ≡ granted text → Carried h entry outcome exit → RoomVerdict text entry outcome exit
   in-room text e w =
-      let v : Handing (handed text) entry outcome exit = subst (λ x. Handing x entry outcome exit) e w in
+      let v : Carried (granted text) entry outcome exit = subst (λ x. Carried x entry outcome exit) e w in
       by (leb (length text) (length entry)) refl (v .answer) (v .count) (v .content)
     where
       by : (b : Bool) → leb (length text) (length entry) ≡ b → outcome .answer ≡ pick b 0 36 → outcome .length ≡ pick b (length text) 0 → exit ≡ pick b (over text entry) entry
@@ -39,23 +39,23 @@ module _ (h : Handed) (entry : List ℕ) (outcome : Outcome) (exit : List ℕ) w
       by true p a n c = done (leb-true (length text) (length entry) p) (record { answer = a; count = n; content = c })
       by false p a n c = out-short (leb-false (length text) (length entry) p) (record { answer = a; count = n; content = c })
 
-  pub in-room-back : (text : List ℕ) → h ≡ handed text → RoomVerdict text entry outcome exit → Handing h entry outcome exit
-  in-room-back text e o = subst (λ x. Handing x entry outcome exit) (sym e) (by o)
+  pub in-room-back : (text : List ℕ) → h ≡ granted text → RoomVerdict text entry outcome exit → Carried h entry outcome exit
+  in-room-back text e o = subst (λ x. Carried x entry outcome exit) (sym e) (by o)
     where
-      by : RoomVerdict text entry outcome exit → Handing (handed text) entry outcome exit
+      by : RoomVerdict text entry outcome exit → Carried (granted text) entry outcome exit
       by (done l r) = let q = le-leb (length text) (length entry) l in record { answer = rw q (r .answer); count = rw q (r .count); content = rw q (r .content) }
       by (out-short l r) = let q = lt-leb (length text) (length entry) l in record { answer = rw q (r .answer); count = rw q (r .count); content = rw q (r .content) }
 
 -- what is handed out and answered with 0 is the text, whole
-pub handed-text : (text entry : List ℕ) (outcome : Outcome) (exit : List ℕ) → RoomVerdict text entry outcome exit → outcome .answer ≡ 0
+pub granted-text : (text entry : List ℕ) (outcome : Outcome) (exit : List ℕ) → RoomVerdict text entry outcome exit → outcome .answer ≡ 0
     → (length text ≤ length entry) × Writes text entry outcome exit
-handed-text text entry outcome exit (done l r) z = (l, r)
-handed-text text entry outcome exit (out-short l r) z = let x : ⊥ = omega (arith, r .answer, z) in elim x [ ]
+granted-text text entry outcome exit (done l r) z = (l, r)
+granted-text text entry outcome exit (out-short l r) z = let x : ⊥ = omega (arith, r .answer, z) in elim x [ ]
 
 pub wrote : (token : Token) (entry : List ℕ) (outcome : Outcome) (exit : List ℕ) → Canonical (tokenText token) token → RoomVerdict (tokenText token) entry outcome exit
     → outcome .answer ≡ 0 → Wrote token entry outcome exit
 wrote token entry outcome exit c o z =
-    let w = handed-text (tokenText token) entry outcome exit o z in
+    let w = granted-text (tokenText token) entry outcome exit o z in
     record {
       text = tokenText token;
       canonical = c;
@@ -72,7 +72,7 @@ front-text text entry outcome exit r =
 
 pub refusal-writes-nothing : RefusalWritesNothing
 refusal-writes-nothing (refused n) entry outcome exit w d = (w .count, w .content)
-refusal-writes-nothing (handed text) entry outcome exit w d = by (in-room (handed text) entry outcome exit text refl w)
+refusal-writes-nothing (granted text) entry outcome exit w d = by (in-room (granted text) entry outcome exit text refl w)
   where
     by : RoomVerdict text entry outcome exit → (outcome .length ≡ 0) × (exit ≡ entry)
     by (done l r) = let z = d (r .answer) in elim z [ ]

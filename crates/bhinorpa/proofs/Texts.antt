@@ -17,6 +17,7 @@ use Rattle.text_reading.proofs.Decoding.{sound}
 use Rattle.text_reading.proofs.TextLaws.{bytes-text, judged-text, whole-text, whole-bytes, whole-length}
 use Rattle.token.specs.Tokens.{Token, encodeToken}
 use Rattle.token.specs.Reading.{tokenOf}
+use Rattle.token.specs.declared.TokenAt.{TokenAt}
 use Rattle.token.specs.declared.TokenParts.{TokenParts}
 use Rattle.token.specs.declared.TokenParts.the-variants.{Of, Bad}
 use Rattle.token.proofs.TokenWritten.{token-written}
@@ -39,7 +40,7 @@ pub record Tokened (text : List ℕ) : Type 0 where
   pub canonical : Canonical text token
 
 reads-canonical : (text : List ℕ) {n : ℕ} → judgedOf text ≡ Whole n → length text ≤ 5462
-    → {count from to scope scope-end tag kid kid-end tid tid-end : ℕ} → tokenOf (bytesOf text) ≡ Of count from to scope scope-end tag kid kid-end tid tid-end → Tokened text
+    → {parts : TokenAt} → tokenOf (bytesOf text) ≡ Of parts → Tokened text
 reads-canonical text {n} j h e =
     let b = whole-bytes text j in
     let t = token-read (bytesOf text) b e in
@@ -88,7 +89,7 @@ defect-no-token text n d token c = by (defect-unread text n d)
     bytes : List ℕ
     bytes = encodeToken token
 
-    apart : {k at count from to scope scope-end tag kid kid-end tid tid-end : ℕ} → _≡_ {A = TokenParts} (Bad k at) (Of count from to scope scope-end tag kid kid-end tid tid-end) → ⊥
+    apart : {k at : ℕ} {parts : TokenAt} → _≡_ {A = TokenParts} (Bad k at) (Of parts) → ⊥
     apart q = let z : _≡_ {A = ℕ} 0 1 = cc in omega arith
 
     by : Unread text n → ⊥
@@ -109,7 +110,7 @@ text-is text = by-length (ltb 5462 (length text)) refl
 
     by-token : length text ≤ 5462 → (k : ℕ) → judgedOf text ≡ Whole k → (p : TokenParts) → tokenOf (bytesOf text) ≡ p → TextIs text
     by-token l k j (Bad n at) p = defect n (unread-bytes l k j at p)
-    by-token l k j (Of a b c d e f g h i m) p = let t = reads-canonical text j l p in one-token (t .token) (t .canonical)
+    by-token l k j (Of parts) p = let t = reads-canonical text j l p in one-token (t .token) (t .canonical)
 
     by-judged : length text ≤ 5462 → (j : Judged) → judgedOf text ≡ j → TextIs text
     by-judged l (Fault at) j = defect 3 (unread-fault l at j refl)

@@ -1,5 +1,5 @@
 -- The statements that the product is judged by, in the order of the demands: each a type, whose theorem (the same name in small letters)
--- stands under proofs/. `verifyOf`, `issueOf`, `narrowOf` and `Handing` are what the exported functions' contracts say (src/lib.rt); that
+-- stands under proofs/. `verifyOf`, `issueOf`, `narrowOf` and `Carried` are what the exported functions' contracts say (src/lib.rt); that
 -- each takes any bytes, touches only what it was lent and ends is those contracts, none of which asks anything of its caller.
 use mathlib.Core.Path.{_≡_}
 use mathlib.Core.Bool.{true, false}
@@ -13,7 +13,7 @@ use Rattle.answers.specs.Answers.{numberOf}
 use Rattle.answers.specs.declared.Answer.the-variants.{Allow, CavFull, SizeFull, OutShort}
 use Rattle.cbor_strings.specs.declared.Class.the-variants.{Name}
 use Rattle.cbor_keys.specs.Maps.{GoodText}
-use Rattle.token_cidr.specs.Prefixes.{Prefix, Good}
+use Rattle.token_cidr.specs.Prefixes.{Prefix, GoodPrefix}
 use Rattle.token_cidr.specs.Bits.{Agree}
 use Rattle.token_scope.specs.Scopes.{Scope, encodeScope}
 use Rattle.token_caveat.specs.Caveats.{Caveat, ip-cidr}
@@ -22,12 +22,12 @@ use Rattle.records_table.specs.Tables.{Row, GoodTable, hasRow}
 use Rattle.records_request.specs.Requests.{Request}
 use Rattle.rules.specs.Holding.{addressBytes, caveatHolds}
 use Rattle.verify.specs.Verifying.{verifyOf}
-use Rattle.outcome.specs.Handing.{Handed, Handing}
+use Rattle.outcome.specs.Decisions.{Decision, Carried}
 use Rattle.outcome.specs.declared.Outcome.{Outcome}
 use Rattle.issue.specs.Issuing.{issueOf}
 use Rattle.narrow.specs.Narrowing.{narrowOf}
 use Rattle.bhinorpa.specs.Allowed.{TableOf, RequestOf, tokenText, Canonical, caveatBytes, Allowed}
-use Rattle.bhinorpa.specs.Handouts.{CaveatOf, Grant, Parent, freshToken, childToken, Issued, Narrowed, NarrowsExactly, Call, leftBy, Narrowings, lastOf, AllDone}
+use Rattle.bhinorpa.specs.NewTokens.{CaveatOf, Grant, Parent, freshToken, childToken, Issued, Narrowed, NarrowsExactly, Call, leftBy, Narrowings, lastOf, AllDone}
 use Rattle.bhinorpa.specs.Verdicts.{TextDefect, Verdict, IssueVerdict, NarrowVerdict, oneOf, verifyAnswers, issueAnswers, narrowAnswers}
 
 -- DEMAND 1: "Any bytes may arrive at any entry point. Each judges them itself, ends, and answers from one numbered list in a stated order."
@@ -40,18 +40,18 @@ VerifyList = (table request text : List ℕ) → oneOf verifyAnswers (verifyOf t
 abbrev pub IssueList : Type 0
 IssueList =
     (table tid kid bytes : List ℕ) → IsBytes table → IsBytes bytes → (entry : List ℕ) (outcome : Outcome) (exit : List ℕ)
-    → Handing (issueOf table tid kid bytes) entry outcome exit → oneOf issueAnswers (outcome .answer) ≡ true
+    → Carried (issueOf table tid kid bytes) entry outcome exit → oneOf issueAnswers (outcome .answer) ≡ true
 
 -- narrow answers 0, 1, 3 to 8 or 31 to 36
 abbrev pub NarrowList : Type 0
 NarrowList =
     (table text bytes : List ℕ) → IsBytes table → IsBytes bytes → (entry : List ℕ) (outcome : Outcome) (exit : List ℕ)
-    → Handing (narrowOf table text bytes) entry outcome exit → oneOf narrowAnswers (outcome .answer) ≡ true
+    → Carried (narrowOf table text bytes) entry outcome exit → oneOf narrowAnswers (outcome .answer) ≡ true
 
 -- "A refusal reports 0 bytes written and changes no byte of the lent room." Whatever is handed out: issue's `issueOf ..`, narrow's `narrowOf ..`
 abbrev pub RefusalWritesNothing : Type 0
 RefusalWritesNothing =
-    (handed : Handed) (entry : List ℕ) (outcome : Outcome) (exit : List ℕ) → Handing handed entry outcome exit → (outcome .answer ≡ numberOf Allow → ⊥)
+    (decision : Decision) (entry : List ℕ) (outcome : Outcome) (exit : List ℕ) → Carried decision entry outcome exit → (outcome .answer ≡ numberOf Allow → ⊥)
     → (outcome .length ≡ 0) × (exit ≡ entry)
 
 -- DEMAND 2: "A token is allowed exactly when it is canonical, its key is known, the BLAKE3 chain gives its tag, and tenant, scope and every
@@ -77,7 +77,7 @@ DefectNoToken = (text : List ℕ) (n : ℕ) → TextDefect text n → (token : T
 abbrev pub IssueFirstFailing : Type 0
 IssueFirstFailing =
     (table tid kid bytes : List ℕ) → IsBytes table → IsBytes bytes → (entry : List ℕ) (outcome : Outcome) (exit : List ℕ)
-    → Handing (issueOf table tid kid bytes) entry outcome exit → IssueVerdict table tid kid bytes entry outcome exit
+    → Carried (issueOf table tid kid bytes) entry outcome exit → IssueVerdict table tid kid bytes entry outcome exit
 
 abbrev pub IssueVerdictOne : Type 0
 IssueVerdictOne =
@@ -92,14 +92,14 @@ IdsOfRows = (rows : List Row) → GoodTable rows → (tid kid : List ℕ) → ha
 abbrev pub IssueRefusals : Type 0
 IssueRefusals =
     (table tid kid bytes : List ℕ) (rows : List Row) (scope : Scope) → Grant table tid kid bytes rows scope → (entry : List ℕ) (outcome : Outcome) (exit : List ℕ)
-    → Handing (issueOf table tid kid bytes) entry outcome exit
+    → Carried (issueOf table tid kid bytes) entry outcome exit
     → outcome .answer ≡ pick (leb (length (tokenText (freshToken rows scope tid kid))) (length entry)) (numberOf Allow) (numberOf OutShort)
 
 -- and of narrow
 abbrev pub NarrowFirstFailing : Type 0
 NarrowFirstFailing =
     (table text bytes : List ℕ) → IsBytes table → IsBytes bytes → (entry : List ℕ) (outcome : Outcome) (exit : List ℕ)
-    → Handing (narrowOf table text bytes) entry outcome exit → NarrowVerdict table text bytes entry outcome exit
+    → Carried (narrowOf table text bytes) entry outcome exit → NarrowVerdict table text bytes entry outcome exit
 
 abbrev pub NarrowVerdictOne : Type 0
 NarrowVerdictOne =
@@ -111,19 +111,19 @@ NarrowVerdictOne =
 abbrev pub IssueWrites : Type 0
 IssueWrites =
     (table tid kid bytes : List ℕ) → IsBytes table → IsBytes tid → IsBytes kid → IsBytes bytes → (entry : List ℕ) (outcome : Outcome) (exit : List ℕ)
-    → Handing (issueOf table tid kid bytes) entry outcome exit → outcome .answer ≡ numberOf Allow → Issued table tid kid bytes entry outcome exit
+    → Carried (issueOf table tid kid bytes) entry outcome exit → outcome .answer ≡ numberOf Allow → Issued table tid kid bytes entry outcome exit
 
 abbrev pub NarrowWrites : Type 0
 NarrowWrites =
     (table text bytes : List ℕ) → IsBytes table → IsBytes bytes → (entry : List ℕ) (outcome : Outcome) (exit : List ℕ)
-    → Handing (narrowOf table text bytes) entry outcome exit → outcome .answer ≡ numberOf Allow → Narrowed table text bytes entry outcome exit
+    → Carried (narrowOf table text bytes) entry outcome exit → outcome .answer ≡ numberOf Allow → Narrowed table text bytes entry outcome exit
 
 -- "and every readable, rightly tagged text is what issuing and narrowing in order would have written": whatever rooms of at least 5,462 bytes
 -- are lent, each call meeting its contract on the text that the call before left, all are done, and the last one leaves the text
 abbrev pub Rebuilt : Type 0
 Rebuilt =
     (table text : List ℕ) (rows : List Row) (token : Token) → Parent table text rows token
-    → (first : Call) → 5462 ≤ length (first .entry) → Handing (issueOf table (token .tid) (token .kid) (encodeScope (token .scope))) (first .entry) (first .outcome) (first .exit)
+    → (first : Call) → 5462 ≤ length (first .entry) → Carried (issueOf table (token .tid) (token .kid) (encodeScope (token .scope))) (first .entry) (first .outcome) (first .exit)
     → (calls : List Call) → Narrowings table (leftBy first) (caveatBytes (token .caveats)) calls
     → AllDone (first ∷ calls) × (leftBy (lastOf first calls) ≡ text)
 
@@ -135,14 +135,14 @@ RoomEnough = (text : List ℕ) (token : Token) → Canonical text token → leng
 abbrev pub NarrowingExact : Type 0
 NarrowingExact =
     (table text bytes : List ℕ) → IsBytes table → IsBytes bytes → (entry : List ℕ) (outcome : Outcome) (exit : List ℕ)
-    → Handing (narrowOf table text bytes) entry outcome exit → outcome .answer ≡ numberOf Allow → NarrowsExactly table text bytes (take (outcome .length) exit)
+    → Carried (narrowOf table text bytes) entry outcome exit → outcome .answer ≡ numberOf Allow → NarrowsExactly table text bytes (take (outcome .length) exit)
 
 -- "and narrow refuses a good parent and caveat only for the three listed reasons": 34 exactly for a parent of 64 caveats; else 35 exactly for a
 -- child of over 4,096 bytes; else 36 exactly for a room shorter than the child's text; else 0
 abbrev pub NarrowingRefusals : Type 0
 NarrowingRefusals =
     (table text bytes : List ℕ) (rows : List Row) (token : Token) → Parent table text rows token → (added : Caveat) → CaveatOf bytes added
-    → (entry : List ℕ) (outcome : Outcome) (exit : List ℕ) → Handing (narrowOf table text bytes) entry outcome exit
+    → (entry : List ℕ) (outcome : Outcome) (exit : List ℕ) → Carried (narrowOf table text bytes) entry outcome exit
     → outcome .answer
     ≡ pick (eqb (length (token .caveats)) 64) (numberOf CavFull)
     (pick (ltb 4096 (length (encodeToken (childToken rows token added)))) (numberOf SizeFull)
@@ -151,7 +151,7 @@ NarrowingRefusals =
 -- Document 01, "What holds when": "ip_cidr, a present peer's first n bits agree"
 abbrev pub FirstBits : Type 0
 FirstBits =
-    (asked : Request) (tid : List ℕ) (prefix : Prefix) → Good prefix → (peer : List ℕ) → IsBytes peer → asked .peer ≡ some peer
+    (asked : Request) (tid : List ℕ) (prefix : Prefix) → GoodPrefix prefix → (peer : List ℕ) → IsBytes peer → asked .peer ≡ some peer
     → (caveatHolds asked tid (ip-cidr prefix) ≡ true → Agree (addressBytes prefix) peer (prefix .size))
     × (Agree (addressBytes prefix) peer (prefix .size) → caveatHolds asked tid (ip-cidr prefix) ≡ true)
 

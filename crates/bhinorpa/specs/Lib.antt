@@ -1,4 +1,4 @@
 pub mod Allowed
-pub mod Handouts
+pub mod NewTokens
 pub mod Verdicts
 pub mod Demands

@@ -26,7 +26,7 @@ use Rattle.records_table.specs.Tables.{Row, hasRow}
 use Rattle.records_request.specs.Requests.{Request}
 use Rattle.outcome.specs.declared.Outcome.{Outcome}
 use Rattle.bhinorpa.specs.Allowed.{TableOf, RequestOf, tokenText, Canonical, chainTag, keyFor, firstFailing, checksOf}
-use Rattle.bhinorpa.specs.Handouts.{ScopeOf, CaveatOf, Grant, Parent, freshToken, childToken}
+use Rattle.bhinorpa.specs.NewTokens.{ScopeOf, CaveatOf, Grant, Parent, freshToken, childToken}
 
 abbrev pub NoTable : List ℕ → Type 0
 NoTable table = (rows : List Row) → TableOf table rows → ⊥

@@ -3,7 +3,7 @@
 use outcome::Outcome;
 ghost use mathlib.Core.Path.{_≡_};
 ghost use Rattle.verify.specs.Verifying.{verifyOf};
-ghost use Rattle.outcome.specs.Handing.{Handing};
+ghost use Rattle.outcome.specs.Decisions.{Carried};
 ghost use Rattle.issue.specs.Issuing.{issueOf};
 ghost use Rattle.narrow.specs.Narrowing.{narrowOf};
 
@@ -24,7 +24,7 @@ pub extern "C" fn bhinorpa_issue(
     scope: &[u8],
     room: &mut [u8],
 ) -> Outcome
-    ensures { λ r. ⌜ Handing (issueOf (now (table .entry)) (now (tid .entry)) (now (kid .entry)) (now (scope .entry))) (now (room .entry)) r (now (room .exit)) ⌝ }
+    ensures { λ r. ⌜ Carried (issueOf (now (table .entry)) (now (tid .entry)) (now (kid .entry)) (now (scope .entry))) (now (room .entry)) r (now (room .exit)) ⌝ }
 {
     issue::issue(table, tid, kid, scope, room)
 }
@@ -37,7 +37,7 @@ pub extern "C" fn bhinorpa_narrow(
     caveat: &[u8],
     room: &mut [u8],
 ) -> Outcome
-    ensures { λ r. ⌜ Handing (narrowOf (now (table .entry)) (now (token .entry)) (now (caveat .entry))) (now (room .entry)) r (now (room .exit)) ⌝ }
+    ensures { λ r. ⌜ Carried (narrowOf (now (table .entry)) (now (token .entry)) (now (caveat .entry))) (now (room .entry)) r (now (room .exit)) ⌝ }
 {
     narrow::narrow(table, token, caveat, room)
 }

@@ -9,7 +9,8 @@ use Rattle.basis.specs.Basis.{pick, ascii, between, over}
 use Rattle.answers.specs.Answers.{nameOf, answerOf}
 use Rattle.answers.specs.declared.Listed.{Listed}
 use Rattle.answers.specs.declared.Listed.the-variants.{Of, Free}
-use Rattle.records.specs.Records.{afterRecord, recordAt}
+use Rattle.records.specs.Records.{afterRecord, readRecord}
+use Rattle.records.specs.declared.RecordAt.{RecordAt}
 use Rattle.verify.specs.Verifying.{verifyOf}
 
 -- the name on a line. A number that no answer has would print as "?", which is no answer's name (`unnamed`); it does not arise:
@@ -28,16 +29,16 @@ abbrev pub badLine : List ℕ
 badLine = ascii "bundle.bad" ++ (0x0a ∷ [])
 
 -- "Later tables and requests replace earlier ones. .. At a cut record or other kind: "bundle.bad" and stop"; `rest` goes on behind the record
-unfoldable pub kindThen : (List ℕ → List ℕ → ℕ → List ℕ) → List ℕ → List ℕ → List ℕ → ℕ → ℕ → ℕ → List ℕ
-kindThen rest s table request kind from to =
-    pick (eqb kind 16) (rest (between s from to) request to)
-    (pick (eqb kind 32) (rest table (between s from to) to)
-    (pick (eqb kind 48) (line (verifyOf table request (between s from to)) ++ rest table request to) badLine))
+unfoldable pub kindThen : (List ℕ → List ℕ → ℕ → List ℕ) → List ℕ → List ℕ → List ℕ → RecordAt → List ℕ
+kindThen rest s table request found =
+    pick (eqb (found .kind) 16) (rest (between s (found .body)) request (found .body .to))
+    (pick (eqb (found .kind) 32) (rest table (between s (found .body)) (found .body .to))
+    (pick (eqb (found .kind) 48) (line (verifyOf table request (between s (found .body))) ++ rest table request (found .body .to)) badLine))
 
 -- so many records at most from a place on, under this table and this request
 unfoldable pub linesFrom : ℕ → List ℕ → List ℕ → List ℕ → ℕ → List ℕ
 linesFrom zero s table request at = []
-linesFrom (suc k) s table request at = pick (eqb at (length s)) [] (afterRecord badLine (kindThen (linesFrom k s) s table request) (recordAt s at))
+linesFrom (suc k) s table request at = pick (eqb at (length s)) [] (afterRecord badLine (kindThen (linesFrom k s) s table request) (readRecord s at))
 
 -- "Before any, the table is empty and the request counts as malformed": so does an empty one. A record has at least four bytes, so that
 -- 65,536 bytes hold 16,384 at most. "a longer input gives that line only"

@@ -1,7 +1,8 @@
 // Bundles judged: tables, requests and tokens in one input, and a line for each token. Tables and requests
 // are kept as places in the input; each line is written behind the last.
 use answers::Listed;
-use records::Record;
+use basis::Span;
+use records::RecordParts;
 ghost use mathlib.Core.Path.{_≡_};
 ghost use mathlib.Core.List.{[]};
 ghost use Prim.Native.Nat.{_+_, _≤_};
@@ -51,29 +52,29 @@ fn walk(input: &[u8], room: &mut [u8]) -> usize
 {
     let mut p: usize = 0;
     let mut n: usize = 0;
-    let mut t: usize = 0;
-    let mut t_end: usize = 0;
-    let mut q: usize = 0;
-    let mut q_end: usize = 0;
+    let mut table = Span { from: 0, to: 0 };
+    let mut request = Span { from: 0, to: 0 };
     while p != input.len() {
         match records::record_at(input, p) {
-            Record::Bad => return cbor_writing::put_at(room, n, b"bundle.bad\n"),
-            Record::Of { kind, from, to } => {
+            RecordParts::Bad => return cbor_writing::put_at(room, n, b"bundle.bad\n"),
+            RecordParts::Of { record } => {
+                let kind = record.kind;
+                let body = record.body;
                 if kind == 16 {
-                    t = from;
-                    t_end = to;
+                    table = body;
                 } else if kind == 32 {
-                    q = from;
-                    q_end = to;
+                    request = body;
                 } else if kind == 48 {
-                    let table = basis::part(input, t, t_end);
-                    let request = basis::part(input, q, q_end);
-                    let answer = verify::verify(table, request, basis::part(input, from, to));
+                    let answer = verify::verify(
+                        basis::lend(input, table),
+                        basis::lend(input, request),
+                        basis::lend(input, body),
+                    );
                     n = put_line(room, n, answer);
                 } else {
                     return cbor_writing::put_at(room, n, b"bundle.bad\n");
                 }
-                p = to;
+                p = body.to;
             }
         }
     }

@@ -1,24 +1,25 @@
 -- Every defect of a key or a field has one of the three numbers of reading; and one law for each kind of step, by which a reading
--- made of steps has them too. See cbor's DefectKinds.
+-- made of steps has them too. See DefectKinds of `cbor_strings`.
 use mathlib.Core.List.{List}
 use Prim.{Unit, tt}
-use Prim.Native.Nat.{ℕ, _-_}
+use Prim.Native.Nat.{ℕ}
 use lib.Dec.{eqb}
-use lib.ListN.{take, drop}
+use Rattle.basis.specs.Basis.{between}
+use Rattle.basis.specs.declared.Span.{Span}
 use Rattle.basis.proofs.Picks.{either}
 use Rattle.cbor_strings.specs.Strings.{readRun}
 use Rattle.cbor_strings.specs.declared.Class.the-variants.{Name}
 use Rattle.cbor_heads.specs.declared.Count.{Count}
 use Rattle.cbor_heads.specs.declared.Count.the-variants.{Of as Counted, Bad as NoCount}
-use Rattle.cbor_strings.specs.declared.Span.{Span}
-use Rattle.cbor_strings.specs.declared.Span.the-variants.{Of as Found, Bad as NoSpan}
-use Rattle.cbor_strings.proofs.DefectKinds.{Kind, kind-4, kind-5, kind-6, CountKind, SpanKind, count-kinds, run-kinds, string-kinds}
+use Rattle.cbor_strings.specs.declared.Content.{Content}
+use Rattle.cbor_strings.specs.declared.Content.the-variants.{Of as Found, Bad as NoContent}
+use Rattle.cbor_strings.proofs.DefectKinds.{Kind, kind-4, kind-5, kind-6, CountKind, ContentKind, count-kinds, run-kinds, string-kinds}
 use Rattle.cbor_values.specs.declared.Item.{Item}
 use Rattle.cbor_values.specs.declared.Item.the-variants.{End, Bad as NoItem}
 use Rattle.cbor_values.proofs.DefectKinds.{ItemKind}
 use Rattle.cbor_keys.specs.Keys.{indexOfKey, knownBy, keyBy, keyAt, wantedBy, wantedKey}
 use Rattle.cbor_keys.specs.Fields.{nameAt, nameField, numberAt, numberField}
-use Rattle.cbor_keys.specs.Steps.{afterItem, afterSpan, afterCount, afterKey}
+use Rattle.cbor_keys.specs.Steps.{afterItem, afterContent, afterCount, afterKey}
 use Rattle.cbor_keys.specs.declared.Names.{Names}
 use Rattle.cbor_keys.specs.declared.Key.{Key}
 use Rattle.cbor_keys.specs.declared.Key.the-variants.{Of, Bad}
@@ -33,9 +34,9 @@ module _ {A : Type 0} (P : A → Type 0) (bad : ℕ → ℕ → A) (defect : (ki
   item-step rest go (NoItem kind at) h = defect kind at h
   item-step rest go (End next) h = go next
 
-  pub span-step : (rest : ℕ → ℕ → A) → ((from to : ℕ) → P (rest from to)) → (i : Span) → SpanKind i → P (afterSpan bad rest i)
-  span-step rest go (NoSpan kind at) h = defect kind at h
-  span-step rest go (Found from to) h = go from to
+  pub content-step : (rest : Span → A) → ((part : Span) → P (rest part)) → (i : Content) → ContentKind i → P (afterContent bad rest i)
+  content-step rest go (NoContent kind at) h = defect kind at h
+  content-step rest go (Found part) h = go part
 
   pub count-step : (rest : ℕ → ℕ → A) → ((n next : ℕ) → P (rest n next)) → (i : Count) → CountKind i → P (afterCount bad rest i)
   count-step rest go (NoCount kind at) h = defect kind at h
@@ -49,10 +50,10 @@ known-kinds : (at to index : ℕ) → KeyKind (knownBy at to index)
 unfolding knownBy
 known-kinds at to index = either KeyKind {x = Bad 6 at} {y = Of index to} (eqb index 16) kind-6 tt
 
-key-by : (names : Names) (s : List ℕ) (at : ℕ) (r : Span) → SpanKind r → KeyKind (keyBy names s at r)
+key-by : (names : Names) (s : List ℕ) (at : ℕ) (r : Content) → ContentKind r → KeyKind (keyBy names s at r)
 unfolding keyBy
-key-by names s at (NoSpan kind a) h = h
-key-by names s at (Found from to) h = known-kinds at to (indexOfKey names (take (to - from) (drop from s)))
+key-by names s at (NoContent kind a) h = h
+key-by names s at (Found part) h = known-kinds at (part .to) (indexOfKey names (between s part))
 
 wanted-by : (at want : ℕ) (k : Key) → KeyKind k → ItemKind (wantedBy at want k)
 unfolding wantedBy
@@ -69,9 +70,9 @@ module _ (names : Names) (s : List ℕ) (at : ℕ) where
   pub wanted-kinds : (want : ℕ) → ItemKind (wantedKey names s at want)
   wanted-kinds want = wanted-by at want (keyAt names s at) key-kinds
 
-  pub name-field-kinds : (want : ℕ) → SpanKind (nameField names s at want)
+  pub name-field-kinds : (want : ℕ) → ContentKind (nameField names s at want)
   name-field-kinds want =
-      item-step SpanKind NoSpan (λ kind a h. h) (nameAt s) (λ next. string-kinds s next Name 1 64) (wantedKey names s at want) (wanted-kinds want)
+      item-step ContentKind NoContent (λ kind a h. h) (nameAt s) (λ next. string-kinds s next Name 1 64) (wantedKey names s at want) (wanted-kinds want)
 
   pub number-field-kinds : (want most : ℕ) → CountKind (numberField names s at want most)
   number-field-kinds want most =

@@ -4,12 +4,13 @@ use mathlib.Core.List.{List, _++_, append-assoc}
 use Prim.Native.Nat.{ℕ, _+_, _-_, _^_, _≤_, _<_}
 use native.Mathlib.Omega.{arith}
 use lib.ListN.{length, take, drop, getD}
-use Rattle.basis.specs.Basis.{ascii, between, IsBytes}
+use Rattle.basis.specs.Basis.{ascii, fromTo, between, IsBytes}
+use Rattle.basis.specs.declared.Span.{Span}
 use Rattle.basis.proofs.Parts.{past, ends}
 use Rattle.cbor_heads.specs.Heads.{head}
 use Rattle.cbor_strings.specs.declared.Class.the-variants.{Name}
 use Rattle.cbor_heads.specs.declared.Count.the-variants.{Of as Counted}
-use Rattle.cbor_strings.specs.declared.Span.the-variants.{Of as Found}
+use Rattle.cbor_strings.specs.declared.Content.the-variants.{Of as Found}
 use Rattle.cbor_heads.proofs.CountLaws.{head-there, there-head, count, counted}
 use Rattle.cbor_keys.specs.Keys.{keysOf, indexOfKey, wantedKey}
 use Rattle.cbor_keys.specs.Fields.{nameAt, nameField, numberAt, numberField}
@@ -24,7 +25,7 @@ number-written s rest at n most l h e = sym (count s at 0 0 most 5 (head-there s
 
 -- a text behind its key
 pub name-lies : (s key x rest : List ℕ) (at : ℕ) → length x < 2 ^ 64 → drop at s ≡ (key ++ text x) ++ rest
-    → between s (at + length key + length (head 3 (length x))) (at + length (key ++ text x)) ≡ x
+    → between s (fromTo (at + length key + length (head 3 (length x))) (at + length (key ++ text x))) ≡ x
 name-lies s key x rest at l e =
     let f = e ∙ append-assoc key (text x) rest in
     rw (← ends key (text x) at) (text-held x l s rest (at + length key) (past s key (text x ++ rest) at f))
@@ -33,12 +34,12 @@ module _ (names : Names) (want : ℕ) (h : want < 16) where
   -- where the key's content is the name with that index
   module _ (c : List ℕ) (l : length c < 2 ^ 64) (i : indexOfKey names c ≡ want) (s rest : List ℕ) (at : ℕ) where
     pub name-field-written : (x : List ℕ) → GoodText Name 1 64 x → drop at s ≡ (text c ++ text x) ++ rest
-        → nameField names s at want ≡ Found (at + length (text c) + length (head 3 (length x))) (at + length (text c ++ text x))
+        → nameField names s at want ≡ Found (fromTo (at + length (text c) + length (head 3 (length x))) (at + length (text c ++ text x)))
     name-field-written x g e =
         let f = e ∙ append-assoc (text c) (text x) rest in
         let k = at + length (text c) in
         rw (wanted-written names c l want i h s (text x ++ rest) at f)
-        (text-written Name 1 64 x g (omega arith) s rest k (past s (text c) (text x ++ rest) at f) ∙ ap (Found (k + length (head 3 (length x)))) (ends (text c) (text x) at))
+        (text-written Name 1 64 x g (omega arith) s rest k (past s (text c) (text x ++ rest) at f) ∙ ap (λ (to : ℕ). Found (fromTo (k + length (head 3 (length x))) to)) (ends (text c) (text x) at))
 
     pub number-field-written : (n most : ℕ) → n ≤ most → n < 2 ^ 64 → drop at s ≡ (text c ++ head 0 n) ++ rest
         → numberField names s at want most ≡ Counted n (at + length (text c ++ head 0 n))
@@ -52,13 +53,13 @@ module _ (names : Names) (want : ℕ) (h : want < 16) where
   name = ascii (getD (keysOf names) want "")
 
   module _ (s : List ℕ) (b : IsBytes s) (at : ℕ) where
-    pub record IsNameField (from to : ℕ) : Type 0 where
+    pub record IsNameField (part : Span) : Type 0 where
       pub tree : List ℕ
       pub good : GoodText Name 1 64 tree
-      pub held : take (to - from) (drop from s) ≡ tree
-      pub there : drop at s ≡ (text name ++ text tree) ++ drop to s
+      pub held : between s part ≡ tree
+      pub there : drop at s ≡ (text name ++ text tree) ++ drop (part .to) s
 
-    pub name-field-read : {from to : ℕ} → nameField names s at want ≡ Found from to → IsNameField from to
+    pub name-field-read : {part : Span} → nameField names s at want ≡ Found part → IsNameField part
     name-field-read e =
         let w = item-went (λ kind a e. let z : _≡_ {A = ℕ} 0 1 = cc in omega arith) (nameAt s) (wantedKey names s at want) e in
         let k = wanted-read names want h s b at (w .was) in

@@ -1,23 +1,25 @@
 -- Every place that the reading of a key or a field answers lies inside the slice, that of a defect too; and one law for each kind
 -- of step, by which a reading made of steps stays inside.
 use mathlib.Core.List.{List}
-use Prim.Native.Nat.{ℕ, _-_, _≤_}
+use Prim.Native.Nat.{ℕ, _≤_}
 use lib.Dec.{eqb}
-use lib.ListN.{length, take, drop}
+use lib.ListN.{length}
+use Rattle.basis.specs.Basis.{between}
+use Rattle.basis.specs.declared.Span.{Span}
 use Rattle.basis.proofs.Picks.{either}
 use Rattle.cbor_strings.specs.Strings.{readRun}
 use Rattle.cbor_strings.specs.declared.Class.the-variants.{Name}
 use Rattle.cbor_heads.specs.declared.Count.{Count}
 use Rattle.cbor_heads.specs.declared.Count.the-variants.{Of as Counted, Bad as NoCount}
-use Rattle.cbor_strings.specs.declared.Span.{Span}
-use Rattle.cbor_strings.specs.declared.Span.the-variants.{Of as Found, Bad as NoSpan}
-use Rattle.cbor_strings.proofs.Inside.{CountIn, SpanIn, count-in, run-in, string-in}
+use Rattle.cbor_strings.specs.declared.Content.{Content}
+use Rattle.cbor_strings.specs.declared.Content.the-variants.{Of as Found, Bad as NoContent}
+use Rattle.cbor_strings.proofs.Inside.{CountIn, ContentIn, count-in, run-in, string-in}
 use Rattle.cbor_values.specs.declared.Item.{Item}
 use Rattle.cbor_values.specs.declared.Item.the-variants.{End, Bad as NoItem}
 use Rattle.cbor_values.proofs.Inside.{ItemIn}
 use Rattle.cbor_keys.specs.Keys.{indexOfKey, knownBy, keyBy, keyAt, wantedBy, wantedKey}
 use Rattle.cbor_keys.specs.Fields.{nameAt, nameField, numberAt, numberField}
-use Rattle.cbor_keys.specs.Steps.{afterItem, afterSpan, afterCount, afterKey}
+use Rattle.cbor_keys.specs.Steps.{afterItem, afterContent, afterCount, afterKey}
 use Rattle.cbor_keys.specs.declared.Names.{Names}
 use Rattle.cbor_keys.specs.declared.Key.{Key}
 use Rattle.cbor_keys.specs.declared.Key.the-variants.{Of, Bad}
@@ -32,9 +34,9 @@ module _ {A : Type 0} (P : A → Type 0) (size : ℕ) (bad : ℕ → ℕ → A) 
   item-step rest go (NoItem kind at) h = defect kind at h
   item-step rest go (End next) h = go next h
 
-  pub span-step : (rest : ℕ → ℕ → A) → ((from to : ℕ) → from ≤ size → to ≤ size → P (rest from to)) → (i : Span) → SpanIn size i → P (afterSpan bad rest i)
-  span-step rest go (NoSpan kind at) h = defect kind at h
-  span-step rest go (Found from to) h = go from to (h .0) (h .1)
+  pub content-step : (rest : Span → A) → ((part : Span) → part .from ≤ size → part .to ≤ size → P (rest part)) → (i : Content) → ContentIn size i → P (afterContent bad rest i)
+  content-step rest go (NoContent kind at) h = defect kind at h
+  content-step rest go (Found part) h = go part (h .0) (h .1)
 
   pub count-step : (rest : ℕ → ℕ → A) → ((n next : ℕ) → next ≤ size → P (rest n next)) → (i : Count) → CountIn size i → P (afterCount bad rest i)
   count-step rest go (NoCount kind at) h = defect kind at h
@@ -49,10 +51,10 @@ module _ (size at : ℕ) (h : at ≤ size) where
   unfolding knownBy
   known-in to index g = either (KeyIn size) {x = Bad 6 at} {y = Of index to} (eqb index 16) h g
 
-  key-by : (names : Names) (s : List ℕ) (r : Span) → SpanIn size r → KeyIn size (keyBy names s at r)
+  key-by : (names : Names) (s : List ℕ) (r : Content) → ContentIn size r → KeyIn size (keyBy names s at r)
   unfolding keyBy
-  key-by names s (NoSpan kind a) g = g
-  key-by names s (Found from to) g = known-in to (indexOfKey names (take (to - from) (drop from s))) (g .1)
+  key-by names s (NoContent kind a) g = g
+  key-by names s (Found part) g = known-in (part .to) (indexOfKey names (between s part)) (g .1)
 
   wanted-by : (want : ℕ) (k : Key) → KeyIn size k → ItemIn size (wantedBy at want k)
   unfolding wantedBy
@@ -66,9 +68,9 @@ module _ (names : Names) (s : List ℕ) (at : ℕ) where
   pub wanted-in : (want : ℕ) → at ≤ length s → ItemIn (length s) (wantedKey names s at want)
   wanted-in want h = wanted-by (length s) at h want (keyAt names s at) (key-in h)
 
-  pub name-field-in : (want : ℕ) → at ≤ length s → SpanIn (length s) (nameField names s at want)
+  pub name-field-in : (want : ℕ) → at ≤ length s → ContentIn (length s) (nameField names s at want)
   name-field-in want h =
-      item-step (SpanIn (length s)) (length s) NoSpan (λ kind a g. g) (nameAt s) (λ next g. string-in s next Name 1 64 g) (wantedKey names s at want)
+      item-step (ContentIn (length s)) (length s) NoContent (λ kind a g. g) (nameAt s) (λ next g. string-in s next Name 1 64 g) (wantedKey names s at want)
       (wanted-in want h)
 
   pub number-field-in : (want most : ℕ) → at ≤ length s → CountIn (length s) (numberField names s at want most)

@@ -8,14 +8,15 @@ use native.Mathlib.Omega.{arith}
 use borrow.Author.Tests.{eq-eqb, ne-eqb, eqb-true, eqb-false}
 use lib.Dec.{eqb}
 use lib.ListN.{length, take, drop, getD}
-use Rattle.basis.specs.Basis.{pick, ascii, IsBytes}
+use Rattle.basis.specs.Basis.{pick, ascii, between, IsBytes}
+use Rattle.basis.specs.declared.Span.{Span}
 use Rattle.basis.specs.Same.{sameOf}
 use Rattle.basis.proofs.Parts.{ends}
 use Rattle.basis.proofs.Sameness.{same-equal}
 use Rattle.cbor_heads.specs.Heads.{head}
 use Rattle.cbor_strings.specs.Strings.{string, readRun}
-use Rattle.cbor_strings.specs.declared.Span.{Span}
-use Rattle.cbor_strings.specs.declared.Span.the-variants.{Of as Found, Bad as NoSpan}
+use Rattle.cbor_strings.specs.declared.Content.{Content}
+use Rattle.cbor_strings.specs.declared.Content.the-variants.{Of as Found, Bad as NoContent}
 use Rattle.cbor_strings.proofs.StringLaws.{read-run-written, content-there, written-run}
 use Rattle.cbor_keys.specs.Keys.{keysOf, indexFrom, indexOfKey, knownBy, keyBy, keyAt, wantedBy, wantedKey}
 use Rattle.cbor_values.specs.declared.Item.the-variants.{End, Bad as NoItem}
@@ -66,22 +67,22 @@ pub key-read : (names : Names) (s : List ℕ) → IsBytes s → (at : ℕ) {i ne
 unfolding keyBy knownBy
 key-read names s b at {i} {next} = by (readRun s at 3 0 0xffffffffffffffff) refl
   where
-    found : (f t k : ℕ) → readRun s at 3 0 0xffffffffffffffff ≡ Found f t → indexOfKey names (take (t - f) (drop f s)) ≡ k
-        → (u : Bool) → eqb k 16 ≡ u → pick u (Bad 6 at) (Of k t) ≡ Of i next → IsKey names s at i next
-    found f t k p q true r e = let z : _≡_ {A = ℕ} 0 1 = cc in let z : ⊥ = omega arith in elim z [ ]
-    found f t k p q false r e =
+    found : (part : Span) (k : ℕ) → readRun s at 3 0 0xffffffffffffffff ≡ Found part → indexOfKey names (between s part) ≡ k
+        → (u : Bool) → eqb k 16 ≡ u → pick u (Bad 6 at) (Of k (part .to)) ≡ Of i next → IsKey names s at i next
+    found part k p q true r e = let z : _≡_ {A = ℕ} 0 1 = cc in let z : ⊥ = omega arith in elim z [ ]
+    found part k p q false r e =
         let x : k ≡ i = cc in
-        let y : t ≡ next = cc in
+        let y : part .to ≡ next = cc in
         record {
-          content = take (t - f) (drop f s);
+          content = between s part;
           indexed = q ∙ x;
           known = λ z. eqb-false k 16 r (x ∙ z);
           there = rw (← y) (written-run s at 3 0 0xffffffffffffffff b p);
         }
 
-    by : (r : Span) → readRun s at 3 0 0xffffffffffffffff ≡ r → keyBy names s at r ≡ Of i next → IsKey names s at i next
-    by (NoSpan kind a) p e = let z : _≡_ {A = ℕ} 0 1 = cc in let z : ⊥ = omega arith in elim z [ ]
-    by (Found f t) p e = found f t (indexOfKey names (take (t - f) (drop f s))) p refl (eqb (indexOfKey names (take (t - f) (drop f s))) 16) refl e
+    by : (r : Content) → readRun s at 3 0 0xffffffffffffffff ≡ r → keyBy names s at r ≡ Of i next → IsKey names s at i next
+    by (NoContent kind a) p e = let z : _≡_ {A = ℕ} 0 1 = cc in let z : ⊥ = omega arith in elim z [ ]
+    by (Found part) p e = found part (indexOfKey names (between s part)) p refl (eqb (indexOfKey names (between s part)) 16) refl e
 
 -- a name that was found stands there by its index
 pub named-read : (names : Names) (i : ℕ) → i < 16 → (s : List ℕ) → IsBytes s → (at : ℕ) {next : ℕ} → keyAt names s at ≡ Of i next

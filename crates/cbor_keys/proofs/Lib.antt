@@ -5,3 +5,4 @@ pub mod FieldLaws
 pub mod OneAnswer
 pub mod Inside
 pub mod DefectKinds
+pub mod Indexes

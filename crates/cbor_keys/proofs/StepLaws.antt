@@ -3,13 +3,14 @@ use mathlib.Core.Path.{_≡_, refl}
 use mathlib.Core.Bool.{Bool, true, false}
 use Prim.Native.Nat.{ℕ}
 use Rattle.basis.specs.Basis.{pick}
+use Rattle.basis.specs.declared.Span.{Span}
 use Rattle.cbor_heads.specs.declared.Count.{Count}
 use Rattle.cbor_heads.specs.declared.Count.the-variants.{Of as Counted, Bad as NoCount}
-use Rattle.cbor_strings.specs.declared.Span.{Span}
-use Rattle.cbor_strings.specs.declared.Span.the-variants.{Of as Found, Bad as NoSpan}
+use Rattle.cbor_strings.specs.declared.Content.{Content}
+use Rattle.cbor_strings.specs.declared.Content.the-variants.{Of as Found, Bad as NoContent}
 use Rattle.cbor_values.specs.declared.Item.{Item}
 use Rattle.cbor_values.specs.declared.Item.the-variants.{End, Bad as NoItem}
-use Rattle.cbor_keys.specs.Steps.{afterItem, afterSpan, afterCount, afterKey}
+use Rattle.cbor_keys.specs.Steps.{afterItem, afterContent, afterCount, afterKey}
 use Rattle.cbor_keys.specs.declared.Key.{Key}
 use Rattle.cbor_keys.specs.declared.Key.the-variants.{Of as Known, Bad as NoKey}
 
@@ -18,11 +19,10 @@ pub record ItemWent {A : Type 0} (rest : ℕ → A) (i : Item) (x : A) : Type 0 
   pub was : i ≡ End next
   pub goes : rest next ≡ x
 
-pub record SpanWent {A : Type 0} (rest : ℕ → ℕ → A) (i : Span) (x : A) : Type 0 where
-  pub from : ℕ
-  pub to : ℕ
-  pub was : i ≡ Found from to
-  pub goes : rest from to ≡ x
+pub record ContentWent {A : Type 0} (rest : Span → A) (i : Content) (x : A) : Type 0 where
+  pub part : Span
+  pub was : i ≡ Found part
+  pub goes : rest part ≡ x
 
 pub record CountWent {A : Type 0} (rest : ℕ → ℕ → A) (i : Count) (x : A) : Type 0 where
   pub n : ℕ
@@ -42,9 +42,9 @@ module _ {A : Type 0} {x : A} {bad : ℕ → ℕ → A} (never : (kind at : ℕ)
   item-went rest (NoItem kind at) e = let z = never kind at e in elim z [ ]
   item-went rest (End next) e = record { next = next; was = refl; goes = e }
 
-  pub span-went : (rest : ℕ → ℕ → A) (i : Span) → afterSpan bad rest i ≡ x → SpanWent rest i x
-  span-went rest (NoSpan kind at) e = let z = never kind at e in elim z [ ]
-  span-went rest (Found from to) e = record { from = from; to = to; was = refl; goes = e }
+  pub content-went : (rest : Span → A) (i : Content) → afterContent bad rest i ≡ x → ContentWent rest i x
+  content-went rest (NoContent kind at) e = let z = never kind at e in elim z [ ]
+  content-went rest (Found part) e = record { part = part; was = refl; goes = e }
 
   pub count-went : (rest : ℕ → ℕ → A) (i : Count) → afterCount bad rest i ≡ x → CountWent rest i x
   count-went rest (NoCount kind at) e = let z = never kind at e in elim z [ ]

@@ -6,18 +6,18 @@ use Rattle.cbor_strings.specs.Strings.{readString}
 use Rattle.cbor_strings.specs.declared.Class.the-variants.{Name}
 use Rattle.cbor_heads.specs.declared.Count.{Count}
 use Rattle.cbor_heads.specs.declared.Count.the-variants.{Bad as NoCount}
-use Rattle.cbor_strings.specs.declared.Span.{Span}
-use Rattle.cbor_strings.specs.declared.Span.the-variants.{Bad as NoSpan}
+use Rattle.cbor_strings.specs.declared.Content.{Content}
+use Rattle.cbor_strings.specs.declared.Content.the-variants.{Bad as NoContent}
 use Rattle.cbor_keys.specs.Keys.{wantedKey}
 use Rattle.cbor_keys.specs.Steps.{afterItem}
 use Rattle.cbor_keys.specs.declared.Names.{Names}
 
 -- 01: "tid, kid, tenant, ns, name: 1 to 64 of letters, digits, "-", ".", "_""
-abbrev pub nameAt : List ℕ → ℕ → Span
+abbrev pub nameAt : List ℕ → ℕ → Content
 nameAt s at = readString s at Name 1 64
 
-abbrev pub nameField : Names → List ℕ → ℕ → ℕ → Span
-nameField names s at want = afterItem NoSpan (nameAt s) (wantedKey names s at want)
+abbrev pub nameField : Names → List ℕ → ℕ → ℕ → Content
+nameField names s at want = afterItem NoContent (nameAt s) (wantedKey names s at want)
 
 -- a number of the type unsigned; over `most` it is parse.bounds
 abbrev pub numberAt : List ℕ → ℕ → ℕ → Count

@@ -2,15 +2,14 @@
 -- known but repeated, out of order, or with a required key passed over ..: parse.cbor. .. Keys and t have no length range of their
 -- own, and any content that is not a known name is schema.unknown_field."
 use mathlib.Core.List.{List, [], _∷_}
-use Prim.Native.Nat.{ℕ, suc, _-_}
+use Prim.Native.Nat.{ℕ, suc}
 use Prim.Native.String.{String}
 use lib.Dec.{eqb}
-use lib.ListN.{take, drop}
-use Rattle.basis.specs.Basis.{pick, ascii}
+use Rattle.basis.specs.Basis.{pick, ascii, between}
 use Rattle.basis.specs.Same.{sameOf}
 use Rattle.cbor_strings.specs.Strings.{readRun}
-use Rattle.cbor_strings.specs.declared.Span.{Span}
-use Rattle.cbor_strings.specs.declared.Span.the-variants.{Of as Found, Bad as NoSpan}
+use Rattle.cbor_strings.specs.declared.Content.{Content}
+use Rattle.cbor_strings.specs.declared.Content.the-variants.{Of as Found, Bad as NoContent}
 use Rattle.cbor_values.specs.declared.Item.{Item}
 use Rattle.cbor_values.specs.declared.Item.the-variants.{End, Bad as NoItem}
 use Rattle.cbor_keys.specs.declared.Names.{Names}
@@ -42,9 +41,9 @@ indexOfKey names c = indexFrom 0 c (keysOf names)
 unfoldable pub knownBy : ℕ → ℕ → ℕ → Key
 knownBy at to index = pick (eqb index 16) (Bad 6 at) (Of index to)
 
-unfoldable pub keyBy : Names → List ℕ → ℕ → Span → Key
-keyBy names s at (NoSpan kind a) = Bad kind a
-keyBy names s at (Found from to) = knownBy at to (indexOfKey names (take (to - from) (drop from s)))
+unfoldable pub keyBy : Names → List ℕ → ℕ → Content → Key
+keyBy names s at (NoContent kind a) = Bad kind a
+keyBy names s at (Found part) = knownBy at (part .to) (indexOfKey names (between s part))
 
 abbrev pub keyAt : Names → List ℕ → ℕ → Key
 keyAt names s at = keyBy names s at (readRun s at 3 0 0xffffffffffffffff)

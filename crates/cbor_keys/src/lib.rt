@@ -2,12 +2,14 @@
 // place, and told by their index there. A defect carries document 01's number and the place.
 use cbor_heads::Count;
 use cbor_strings::Class;
-use cbor_strings::Span;
+use cbor_strings::Content;
 use cbor_values::Item;
 ghost use mathlib.Core.Path.{_≡_};
 ghost use Rattle.cbor_keys.specs.Keys.{indexFrom, indexOfKey, moreTs, keyAt, wantedKey};
 ghost use Rattle.cbor_keys.specs.Fields.{nameField, numberField};
 ghost use Rattle.cbor_keys.specs.declared.Names.the-variants.{Token, Scope, Caveat, T, Rate, Custom};
+
+pub mod index;
 
 // The places with names of their own: the keys of each map, and what a caveat's t may be.
 pub enum Names {
@@ -29,22 +31,22 @@ fn token_key(c: &[u8]) -> u32
     ensures { λ r. ⌜ r ≡ indexOfKey Token (now (c .entry)) ⌝ }
 {
     if basis::same(c, b"c") {
-        return 0;
+        return index::TOKEN_C;
     }
     if basis::same(c, b"r") {
-        return 1;
+        return index::TOKEN_R;
     }
     if basis::same(c, b"s") {
-        return 2;
+        return index::TOKEN_S;
     }
     if basis::same(c, b"v") {
-        return 3;
+        return index::TOKEN_V;
     }
     if basis::same(c, b"kid") {
-        return 4;
+        return index::TOKEN_KID;
     }
     if basis::same(c, b"tid") {
-        return 5;
+        return index::TOKEN_TID;
     }
     16
 }
@@ -53,13 +55,13 @@ fn scope_key(c: &[u8]) -> u32
     ensures { λ r. ⌜ r ≡ indexOfKey Scope (now (c .entry)) ⌝ }
 {
     if basis::same(c, b"prefix") {
-        return 0;
+        return index::SCOPE_PREFIX;
     }
     if basis::same(c, b"methods") {
-        return 1;
+        return index::SCOPE_METHODS;
     }
     if basis::same(c, b"max_bytes") {
-        return 2;
+        return index::SCOPE_MAX_BYTES;
     }
     16
 }
@@ -68,10 +70,10 @@ fn caveat_key(c: &[u8]) -> u32
     ensures { λ r. ⌜ r ≡ indexOfKey Caveat (now (c .entry)) ⌝ }
 {
     if basis::same(c, b"t") {
-        return 0;
+        return index::CAVEAT_T;
     }
     if basis::same(c, b"v") {
-        return 1;
+        return index::CAVEAT_V;
     }
     16
 }
@@ -80,22 +82,22 @@ fn t_key(c: &[u8]) -> u32
     ensures { λ r. ⌜ r ≡ indexOfKey T (now (c .entry)) ⌝ }
 {
     if basis::same(c, b"exp") {
-        return 0;
+        return index::T_EXP;
     }
     if basis::same(c, b"nbf") {
-        return 1;
+        return index::T_NBF;
     }
     if basis::same(c, b"aud") {
-        return 2;
+        return index::T_AUD;
     }
     if basis::same(c, b"method") {
-        return 3;
+        return index::T_METHOD;
     }
     if basis::same(c, b"path_prefix") {
-        return 4;
+        return index::T_PATH_PREFIX;
     }
     if basis::same(c, b"ip_cidr") {
-        return 5;
+        return index::T_IP_CIDR;
     }
     t_key_more(c)
 }
@@ -104,22 +106,22 @@ fn t_key_more(c: &[u8]) -> u32
     ensures { λ r. ⌜ r ≡ indexFrom 6 (now (c .entry)) moreTs ⌝ }
 {
     if basis::same(c, b"bytes_le") {
-        return 6;
+        return index::T_BYTES_LE;
     }
     if basis::same(c, b"rate") {
-        return 7;
+        return index::T_RATE;
     }
     if basis::same(c, b"tenant") {
-        return 8;
+        return index::T_TENANT;
     }
     if basis::same(c, b"amnesia") {
-        return 9;
+        return index::T_AMNESIA;
     }
     if basis::same(c, b"gov_policy_digest") {
-        return 10;
+        return index::T_GOV_POLICY_DIGEST;
     }
     if basis::same(c, b"custom") {
-        return 11;
+        return index::T_CUSTOM;
     }
     16
 }
@@ -128,10 +130,10 @@ fn rate_key(c: &[u8]) -> u32
     ensures { λ r. ⌜ r ≡ indexOfKey Rate (now (c .entry)) ⌝ }
 {
     if basis::same(c, b"burst") {
-        return 0;
+        return index::RATE_BURST;
     }
     if basis::same(c, b"per_s") {
-        return 1;
+        return index::RATE_PER_S;
     }
     16
 }
@@ -140,13 +142,13 @@ fn custom_key(c: &[u8]) -> u32
     ensures { λ r. ⌜ r ≡ indexOfKey Custom (now (c .entry)) ⌝ }
 {
     if basis::same(c, b"ns") {
-        return 0;
+        return index::CUSTOM_NS;
     }
     if basis::same(c, b"cbor") {
-        return 1;
+        return index::CUSTOM_CBOR;
     }
     if basis::same(c, b"name") {
-        return 2;
+        return index::CUSTOM_NAME;
     }
     16
 }
@@ -168,8 +170,10 @@ pub fn key_at(s: &[u8], at: usize, names: Names) -> Key
     ensures { λ r. ⌜ r ≡ keyAt names (now (s .entry)) at ⌝ }
 {
     match cbor_strings::read_run(s, at, 3, 0, 0xffff_ffff_ffff_ffff) {
-        Span::Bad { kind, at: a } => Key::Bad { kind, at: a },
-        Span::Of { from, to } => {
+        Content::Bad { kind, at: a } => Key::Bad { kind, at: a },
+        Content::Of { span } => {
+            let from = span.from;
+            let to = span.to;
             let index = key_index(names, &s[from..to]);
             if index == 16 {
                 return Key::Bad { kind: 6, at };
@@ -194,11 +198,11 @@ pub fn wanted_key(s: &[u8], at: usize, names: Names, want: u32) -> Item
 }
 
 // The key wanted and a name behind it, as ns, name, kid and tid are.
-pub fn name_field(s: &[u8], at: usize, names: Names, want: u32) -> Span
+pub fn name_field(s: &[u8], at: usize, names: Names, want: u32) -> Content
     ensures { λ r. ⌜ r ≡ nameField names (now (s .entry)) at want ⌝ }
 {
     match wanted_key(s, at, names, want) {
-        Item::Bad { kind, at: a } => Span::Bad { kind, at: a },
+        Item::Bad { kind, at: a } => Content::Bad { kind, at: a },
         Item::End { next } => cbor_strings::read_string(s, next, Class::Name, 1, 64),
     }
 }

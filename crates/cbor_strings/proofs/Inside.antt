@@ -5,6 +5,8 @@ use native.Mathlib.Omega.{arith}
 use borrow.Author.Tests.{ltb-false}
 use lib.Dec.{ltb, eqb}
 use lib.ListN.{length, take, drop, length-drop}
+use Rattle.basis.specs.Basis.{fromTo, between}
+use Rattle.basis.specs.declared.Span.{Span}
 use Rattle.basis.proofs.Picks.{either, tested}
 use Rattle.cbor_heads.specs.Heads.{numberOf, widthOf, headBy, headAt, readHead}
 use Rattle.cbor_heads.specs.Counts.{countBy, readCount}
@@ -16,8 +18,8 @@ use Rattle.cbor_heads.specs.declared.Head.the-variants.{Got, Bad as NoHead}
 use Rattle.cbor_strings.specs.declared.Class.{Class}
 use Rattle.cbor_heads.specs.declared.Count.{Count}
 use Rattle.cbor_heads.specs.declared.Count.the-variants.{Of as Counted, Bad as NoCount}
-use Rattle.cbor_strings.specs.declared.Span.{Span}
-use Rattle.cbor_strings.specs.declared.Span.the-variants.{Of as Found, Bad as NoSpan}
+use Rattle.cbor_strings.specs.declared.Content.{Content}
+use Rattle.cbor_strings.specs.declared.Content.the-variants.{Of as Found, Bad as NoContent}
 
 abbrev pub HeadIn : ℕ → Head → Type 0
 HeadIn size (Got major n next) = next ≤ size
@@ -27,9 +29,9 @@ abbrev pub CountIn : ℕ → Count → Type 0
 CountIn size (Counted n next) = next ≤ size
 CountIn size (NoCount kind at) = at ≤ size
 
-abbrev pub SpanIn : ℕ → Span → Type 0
-SpanIn size (Found from to) = (from ≤ size) × (to ≤ size)
-SpanIn size (NoSpan kind at) = at ≤ size
+abbrev pub ContentIn : ℕ → Content → Type 0
+ContentIn size (Found part) = (part .from ≤ size) × (part .to ≤ size)
+ContentIn size (NoContent kind at) = at ≤ size
 
 -- the ways out of each definition, for whatever is to hold of its answer
 module _ (P : Head → Type 0) (at major low k least : ℕ) (t : List ℕ) where
@@ -42,17 +44,17 @@ module _ (P : Count → Type 0) (at major least most above m n next : ℕ) where
   unfolding countBy
   count-ways bad over good = either P (eqb m major) (either P (ltb n least) bad (either P (ltb most n) over good)) bad
 
-module _ (P : Span → Type 0) where
-  pub run-ways : (size at major low high m n next : ℕ) → P (NoSpan 4 at) → P (NoSpan 5 at) → (n ≤ size - next → P (Found next (next + n)))
+module _ (P : Content → Type 0) where
+  pub run-ways : (size at major low high m n next : ℕ) → P (NoContent 4 at) → P (NoContent 5 at) → (n ≤ size - next → P (Found (fromTo next (next + n))))
       → P (runBy size at major low high (Got m n next))
   unfolding runBy
   run-ways size at major low high m n next bad bounds good =
       let fits = tested P (ltb (size - next) n) (λ e. bad) (λ e. good (ltb-false _ _ e)) in
       either P (eqb m major) (either P (ltb n low) bounds (either P (ltb high n) bounds fits)) bad
 
-  pub content-ways : (class : Class) (s : List ℕ) (from to : ℕ) → P (NoSpan 4 from) → P (Found from to) → P (contentBy class s (Found from to))
+  pub content-ways : (class : Class) (s : List ℕ) (part : Span) → P (NoContent 4 (part .from)) → P (Found part) → P (contentBy class s (Found part))
   unfolding contentBy
-  content-ways class s from to bad good = either P (contentOf class (take (to - from) (drop from s))) good bad
+  content-ways class s part bad good = either P (contentOf class (between s part)) good bad
 
 module _ (size at : ℕ) (h : at ≤ size) where
   width-in : (major low : ℕ) (w : Width) (t : List ℕ) → at + 1 + length t ≤ size → HeadIn size (headBy at major low w t)
@@ -71,15 +73,15 @@ module _ (size at : ℕ) (h : at ≤ size) where
   count-by major least most above (NoHead a) g = g
   count-by major least most above (Got m n next) g = count-ways (CountIn size) at major least most above m n next h h g
 
-  run-by : (major low high : ℕ) (r : Head) → HeadIn size r → SpanIn size (runBy size at major low high r)
+  run-by : (major low high : ℕ) (r : Head) → HeadIn size r → ContentIn size (runBy size at major low high r)
   unfolding runBy
   run-by major low high (NoHead a) g = g
-  run-by major low high (Got m n next) g = run-ways (SpanIn size) size at major low high m n next h h (λ f. (g, omega arith))
+  run-by major low high (Got m n next) g = run-ways (ContentIn size) size at major low high m n next h h (λ f. (g, omega arith))
 
-content-by : (size : ℕ) (class : Class) (s : List ℕ) (r : Span) → SpanIn size r → SpanIn size (contentBy class s r)
+content-by : (size : ℕ) (class : Class) (s : List ℕ) (r : Content) → ContentIn size r → ContentIn size (contentBy class s r)
 unfolding contentBy
-content-by size class s (NoSpan kind a) g = g
-content-by size class s (Found from to) g = content-ways (SpanIn size) class s from to (g .0) g
+content-by size class s (NoContent kind a) g = g
+content-by size class s (Found part) g = content-ways (ContentIn size) class s part (g .0) g
 
 pub head-in : (s : List ℕ) (at : ℕ) → at ≤ length s → HeadIn (length s) (readHead s at)
 head-in s at h = front-in (length s) at h (drop at s) (omega (arith, length-drop at s))
@@ -87,8 +89,8 @@ head-in s at h = front-in (length s) at h (drop at s) (omega (arith, length-drop
 pub count-in : (s : List ℕ) (at major least most above : ℕ) → at ≤ length s → CountIn (length s) (readCount s at major least most above)
 count-in s at major least most above h = count-by (length s) at h major least most above (readHead s at) (head-in s at h)
 
-pub run-in : (s : List ℕ) (at major low high : ℕ) → at ≤ length s → SpanIn (length s) (readRun s at major low high)
+pub run-in : (s : List ℕ) (at major low high : ℕ) → at ≤ length s → ContentIn (length s) (readRun s at major low high)
 run-in s at major low high h = run-by (length s) at h major low high (readHead s at) (head-in s at h)
 
-pub string-in : (s : List ℕ) (at : ℕ) (class : Class) (low high : ℕ) → at ≤ length s → SpanIn (length s) (readString s at class low high)
+pub string-in : (s : List ℕ) (at : ℕ) (class : Class) (low high : ℕ) → at ≤ length s → ContentIn (length s) (readString s at class low high)
 string-in s at class low high h = content-by (length s) class s (readRun s at 3 low high) (run-in s at 3 low high h)

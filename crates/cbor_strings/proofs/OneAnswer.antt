@@ -6,14 +6,14 @@ use Prim.Native.Nat.{ℕ}
 use Rattle.basis.proofs.OneAnswer.{told}
 use Rattle.cbor_strings.specs.Strings.{contentOf, readRun, readString}
 use Rattle.cbor_strings.specs.declared.Class.{Class}
-use Rattle.cbor_strings.specs.declared.Span.{Span}
+use Rattle.cbor_strings.specs.declared.Content.{Content}
 
-pub content-one-answer : (bytes : List ℕ) (class : Class) {r s : Bool} → r ≡ contentOf class bytes → s ≡ contentOf class bytes → r ≡ s
-content-one-answer bytes class p q = told p q
+pub content-is-one-answer : (bytes : List ℕ) (class : Class) {r s : Bool} → r ≡ contentOf class bytes → s ≡ contentOf class bytes → r ≡ s
+content-is-one-answer bytes class p q = told p q
 
-pub read-run-one-answer : (bytes : List ℕ) (at major low high : ℕ) {r s : Span} → r ≡ readRun bytes at major low high → s ≡ readRun bytes at major low high → r ≡ s
+pub read-run-one-answer : (bytes : List ℕ) (at major low high : ℕ) {r s : Content} → r ≡ readRun bytes at major low high → s ≡ readRun bytes at major low high → r ≡ s
 read-run-one-answer bytes at major low high p q = told p q
 
-pub read-string-one-answer : (bytes : List ℕ) (at : ℕ) (class : Class) (low high : ℕ) {r s : Span} → r ≡ readString bytes at class low high
+pub read-string-one-answer : (bytes : List ℕ) (at : ℕ) (class : Class) (low high : ℕ) {r s : Content} → r ≡ readString bytes at class low high
     → s ≡ readString bytes at class low high → r ≡ s
 read-string-one-answer bytes at class low high p q = told p q

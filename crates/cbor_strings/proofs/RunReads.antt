@@ -7,15 +7,17 @@ use native.Mathlib.Omega.{arith}
 use borrow.Author.Tests.{lt-ltb, le-ltb, eq-eqb, ne-eqb, ltb-false, eqb-true}
 use lib.Dec.{ltb, eqb}
 use lib.ListN.{length, take, drop}
-use Rattle.basis.specs.Basis.{pick}
+use Rattle.basis.specs.Basis.{pick, fromTo, between}
+use Rattle.basis.specs.declared.Span.{Span}
+use Rattle.basis.proofs.Parts.{begins-alike, ends-alike}
 use Rattle.cbor_heads.specs.Heads.{readHead}
 use Rattle.cbor_strings.specs.Strings.{contentOf, runBy, readRun, contentBy, readString}
 use Rattle.cbor_strings.specs.declared.Class.{Class}
 use Rattle.cbor_heads.specs.declared.Head.{Head}
 use Rattle.cbor_heads.specs.declared.Head.the-variants.{Got, Bad as NoHead}
 use Rattle.cbor_heads.proofs.HeadLaws.{next-in}
-use Rattle.cbor_strings.specs.declared.Span.{Span}
-use Rattle.cbor_strings.specs.declared.Span.the-variants.{Of, Bad}
+use Rattle.cbor_strings.specs.declared.Content.{Content}
+use Rattle.cbor_strings.specs.declared.Content.the-variants.{Of, Bad}
 
 module _ (s : List ℕ) (at major low high : ℕ) where
   pub no-head : {a : ℕ} → readHead s at ≡ NoHead a → Bad 4 a ≡ readRun s at major low high
@@ -40,7 +42,7 @@ module _ (s : List ℕ) (at major low high : ℕ) where
       unfolding runBy
       missing l g k = rw (e, eq-eqb _ _ h, le-ltb _ _ l, le-ltb _ _ g, lt-ltb _ _ k)
 
-      pub run : low ≤ n → n ≤ high → n ≤ length s - next → Of next (next + n) ≡ readRun s at major low high
+      pub run : low ≤ n → n ≤ high → n ≤ length s - next → Of (fromTo next (next + n)) ≡ readRun s at major low high
       unfolding runBy
       run l g k = rw (e, eq-eqb _ _ h, le-ltb _ _ l, le-ltb _ _ g, le-ltb _ _ k)
 
@@ -49,39 +51,40 @@ module _ (s : List ℕ) (at : ℕ) (class : Class) (low high : ℕ) where
   unfolding contentBy
   no-run e = rw e
 
-  module _ {from to : ℕ} (e : readRun s at 3 low high ≡ Of from to) where
-    pub bad-content : false ≡ contentOf class (take (to - from) (drop from s)) → Bad 4 from ≡ readString s at class low high
+  module _ {part : Span} (e : readRun s at 3 low high ≡ Of part) where
+    pub bad-content : false ≡ contentOf class (between s part) → Bad 4 (part .from) ≡ readString s at class low high
     unfolding contentBy
     bad-content h = rw (e, ← h)
 
-    pub good-content : true ≡ contentOf class (take (to - from) (drop from s)) → Of from to ≡ readString s at class low high
+    pub good-content : true ≡ contentOf class (between s part) → Of part ≡ readString s at class low high
     unfolding contentBy
     good-content h = rw (e, ← h)
 
 -- what a string that was read is
-pub record Found (s : List ℕ) (at major low high from to : ℕ) : Type 0 where
-  pub headed : readHead s at ≡ Got major (to - from) from
-  pub order : from ≤ to
-  pub enough : low ≤ to - from
-  pub most : to - from ≤ high
-  pub inside : to ≤ length s
+pub record Found (s : List ℕ) (at major low high : ℕ) (part : Span) : Type 0 where
+  pub headed : readHead s at ≡ Got major (part .to - part .from) (part .from)
+  pub order : part .from ≤ part .to
+  pub enough : low ≤ part .to - part .from
+  pub most : part .to - part .from ≤ high
+  pub inside : part .to ≤ length s
 
-found-by : (s : List ℕ) (at major low high : ℕ) {from to m n next : ℕ} → readHead s at ≡ Got m n next
+found-by : (s : List ℕ) (at major low high : ℕ) {part : Span} {m n next : ℕ} → readHead s at ≡ Got m n next
     → (a : Bool) → eqb m major ≡ a → (b : Bool) → ltb n low ≡ b → (c : Bool) → ltb high n ≡ c → (d : Bool) → ltb (length s - next) n ≡ d
-    → pick a (pick b (Bad 5 at) (pick c (Bad 5 at) (pick d (Bad 4 at) (Of next (next + n))))) (Bad 4 at) ≡ Of from to → Found s at major low high from to
+    → pick a (pick b (Bad 5 at) (pick c (Bad 5 at) (pick d (Bad 4 at) (Of (fromTo next (next + n)))))) (Bad 4 at) ≡ Of part → Found s at major low high part
 found-by s at major low high p false q b r c t d u e = let z : _≡_ {A = ℕ} 0 1 = cc in let z : ⊥ = omega arith in elim z [ ]
 found-by s at major low high p true q true r c t d u e = let z : _≡_ {A = ℕ} 0 1 = cc in let z : ⊥ = omega arith in elim z [ ]
 found-by s at major low high p true q false r true t d u e = let z : _≡_ {A = ℕ} 0 1 = cc in let z : ⊥ = omega arith in elim z [ ]
 found-by s at major low high p true q false r false t true u e = let z : _≡_ {A = ℕ} 0 1 = cc in let z : ⊥ = omega arith in elim z [ ]
-found-by s at major low high {from} {to} {m} {n} {next} p true q false r false t false u e =
-    let x : next ≡ from = cc in
-    let y : next + n ≡ to = cc in
+found-by s at major low high {part} {m} {n} {next} p true q false r false t false u e =
+    let j : fromTo next (next + n) ≡ part = cc in
+    let x : next ≡ part .from = begins-alike j in
+    let y : next + n ≡ part .to = ends-alike j in
     let k = next-in s at p in
     let w = eqb-true m major q in
     let f = ltb-false n low r in
     let g = ltb-false high n t in
     let h = ltb-false (length s - next) n u in
-    let v : to - from ≡ n = omega arith in
+    let v : part .to - part .from ≡ n = omega arith in
     record {
       headed = rw (v, ← x, ← w) p;
       order = omega arith;
@@ -90,29 +93,29 @@ found-by s at major low high {from} {to} {m} {n} {next} p true q false r false t
       inside = omega (arith, k .1);
     }
 
-pub found : (s : List ℕ) (at major low high : ℕ) {from to : ℕ} → readRun s at major low high ≡ Of from to → Found s at major low high from to
+pub found : (s : List ℕ) (at major low high : ℕ) {part : Span} → readRun s at major low high ≡ Of part → Found s at major low high part
 unfolding runBy
-found s at major low high {from} {to} = by (readHead s at) refl
+found s at major low high {part} = by (readHead s at) refl
   where
-    by : (h : Head) → readHead s at ≡ h → runBy (length s) at major low high h ≡ Of from to → Found s at major low high from to
+    by : (h : Head) → readHead s at ≡ h → runBy (length s) at major low high h ≡ Of part → Found s at major low high part
     by (NoHead a) p e = let z : _≡_ {A = ℕ} 0 1 = cc in let z : ⊥ = omega arith in elim z [ ]
     by (Got m n next) p e =
         found-by s at major low high p (eqb m major) refl (ltb n low) refl (ltb high n) refl (ltb (length s - next) n) refl e
 
 -- what a text that was read is
-pub record Held (s : List ℕ) (at : ℕ) (class : Class) (low high from to : ℕ) : Type 0 where
-  pub run-found : readRun s at 3 low high ≡ Of from to
-  pub good : contentOf class (take (to - from) (drop from s)) ≡ true
+pub record Held (s : List ℕ) (at : ℕ) (class : Class) (low high : ℕ) (part : Span) : Type 0 where
+  pub run-found : readRun s at 3 low high ≡ Of part
+  pub good : contentOf class (between s part) ≡ true
 
-pub held : (s : List ℕ) (at : ℕ) (class : Class) (low high : ℕ) {from to : ℕ} → readString s at class low high ≡ Of from to → Held s at class low high from to
+pub held : (s : List ℕ) (at : ℕ) (class : Class) (low high : ℕ) {part : Span} → readString s at class low high ≡ Of part → Held s at class low high part
 unfolding contentBy
-held s at class low high {from} {to} = by (readRun s at 3 low high) refl
+held s at class low high {part} = by (readRun s at 3 low high) refl
   where
-    tried : (f t : ℕ) → readRun s at 3 low high ≡ Of f t → (b : Bool) → contentOf class (take (t - f) (drop f s)) ≡ b → pick b (Of f t) (Bad 4 f) ≡ Of from to
-        → Held s at class low high from to
-    tried f t p true q e = let x : f ≡ from = cc in let y : t ≡ to = cc in record { run-found = rw (← x, ← y) p; good = rw (← x, ← y) q }
-    tried f t p false q e = let z : _≡_ {A = ℕ} 0 1 = cc in let z : ⊥ = omega arith in elim z [ ]
+    tried : (p : Span) → readRun s at 3 low high ≡ Of p → (b : Bool) → contentOf class (between s p) ≡ b → pick b (Of p) (Bad 4 (p .from)) ≡ Of part
+        → Held s at class low high part
+    tried p r true q e = let x : p ≡ part = cc in record { run-found = rw (← x) r; good = rw (← x) q }
+    tried p r false q e = let z : _≡_ {A = ℕ} 0 1 = cc in let z : ⊥ = omega arith in elim z [ ]
 
-    by : (r : Span) → readRun s at 3 low high ≡ r → contentBy class s r ≡ Of from to → Held s at class low high from to
+    by : (r : Content) → readRun s at 3 low high ≡ r → contentBy class s r ≡ Of part → Held s at class low high part
     by (Bad kind a) p e = let z : _≡_ {A = ℕ} 0 1 = cc in let z : ⊥ = omega arith in elim z [ ]
-    by (Of f t) p e = tried f t p (contentOf class (take (t - f) (drop f s))) refl e
+    by (Of q) p e = tried q p (contentOf class (between s q)) refl e

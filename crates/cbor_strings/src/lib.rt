@@ -1,5 +1,6 @@
 // Strings of deterministic CBOR, by their range and class of content. A reader takes a slice of any length and a
 // place in it; a defect carries document 01's number and the place of the item at fault.
+use basis::Span;
 use cbor_heads::Head;
 ghost use mathlib.Core.Path.{_≡_};
 ghost use Prim.Native.Nat.{_<_, min, max};
@@ -15,9 +16,9 @@ pub enum Class {
     Hex,
 }
 
-// A string's content, or what is wrong with it: document 01's number and the place.
-pub enum Span {
-    Of { from: usize, to: usize },
+// Where a string's content lies, or what is wrong with it: document 01's number and the place.
+pub enum Content {
+    Of { span: Span },
     Bad { kind: u32, at: usize },
 }
 
@@ -134,7 +135,7 @@ fn all_between(s: &[u8], low: u8, high: u8) -> bool
     last <= high
 }
 
-pub fn content(s: &[u8], class: Class) -> bool
+pub fn content_is(s: &[u8], class: Class) -> bool
     ensures { λ r. ⌜ r ≡ contentOf class (now (s .entry)) ⌝ }
 {
     match class {
@@ -155,47 +156,51 @@ pub fn content(s: &[u8], class: Class) -> bool
 }
 
 // A string of the major type wanted with low to high bytes, whatever they are.
-pub fn read_run(s: &[u8], at: usize, major: u8, low: u64, high: u64) -> Span
+pub fn read_run(s: &[u8], at: usize, major: u8, low: u64, high: u64) -> Content
     ensures { λ r. ⌜ r ≡ readRun (now (s .entry)) at major low high ⌝ }
 {
     match cbor_heads::read_head(s, at) {
-        Head::Bad { at: a } => Span::Bad { kind: 4, at: a },
+        Head::Bad { at: a } => Content::Bad { kind: 4, at: a },
         Head::Got {
             major: m,
             value: n,
             next,
         } => {
             if m != major {
-                return Span::Bad { kind: 4, at };
+                return Content::Bad { kind: 4, at };
             }
             if n < low {
-                return Span::Bad { kind: 5, at };
+                return Content::Bad { kind: 5, at };
             }
             if high < n {
-                return Span::Bad { kind: 5, at };
+                return Content::Bad { kind: 5, at };
             }
             if s.len() - next < n as usize {
-                return Span::Bad { kind: 4, at };
+                return Content::Bad { kind: 4, at };
             }
-            Span::Of {
-                from: next,
-                to: next + n as usize,
+            Content::Of {
+                span: Span {
+                    from: next,
+                    to: next + n as usize,
+                },
             }
         }
     }
 }
 
 // A text string with low to high bytes of the class.
-pub fn read_string(s: &[u8], at: usize, class: Class, low: u64, high: u64) -> Span
+pub fn read_string(s: &[u8], at: usize, class: Class, low: u64, high: u64) -> Content
     ensures { λ r. ⌜ r ≡ readString (now (s .entry)) at class low high ⌝ }
 {
     match read_run(s, at, 3, low, high) {
-        Span::Bad { kind: k, at: a } => Span::Bad { kind: k, at: a },
-        Span::Of { from, to } => {
-            if content(&s[from..to], class) {
-                return Span::Of { from, to };
+        Content::Bad { kind: k, at: a } => Content::Bad { kind: k, at: a },
+        Content::Of { span } => {
+            let from = span.from;
+            let to = span.to;
+            if content_is(&s[from..to], class) {
+                return Content::Of { span };
             }
-            Span::Bad { kind: 4, at: from }
+            Content::Bad { kind: 4, at: from }
         }
     }
 }

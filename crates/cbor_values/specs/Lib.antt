@@ -1,3 +1,4 @@
 pub mod Utf8
 pub mod Reading
 pub mod Trees
+pub mod Lists

@@ -1,5 +1,6 @@
 // The values of a custom caveat: read by recursion with the remaining depth as the falling number, in
 // a slice of any length, with any count of elements. UTF-8 by RFC 3629.
+use basis::Span;
 use cbor_heads::Head;
 ghost use mathlib.Core.Path.{_≡_};
 ghost use Prim.Native.Nat.{_<_, _≤_};
@@ -18,6 +19,12 @@ pub enum Tail {
 pub enum Item {
     End { next: usize },
     Bad { kind: u32, at: usize },
+}
+
+// A list as it lies: how many items there are, and from where to where.
+pub struct ListAt {
+    pub count: u64,
+    pub span: Span,
 }
 
 fn due(n: u8, low: u8, high: u8) -> Tail

@@ -4,7 +4,7 @@ use answers::Listed;
 use libc::STDOUT_FILENO;
 use text_reading::Decoded;
 use token::TokenParts;
-use token_caveat_values::Caveat;
+use token_caveat_values::CaveatAt;
 use token_caveat_values::CaveatParts;
 use token_scope::ScopeParts;
 
@@ -48,7 +48,7 @@ fn show_caveat(label: &[u8], s: &[u8]) {
     match token_caveat::read_caveat(s) {
         CaveatParts::Bad { kind, at } => print_defect(kind, at),
         CaveatParts::Of { caveat, next } => match caveat {
-            Caveat::Exp { n } => print_number(next, n),
+            CaveatAt::Exp { n } => print_number(next, n),
             _ => print_read(next),
         },
     }
@@ -58,14 +58,7 @@ fn show_scope(label: &[u8], s: &[u8]) {
     io::write_all(STDOUT_FILENO, label);
     match token_scope::read_scope(s, 0) {
         ScopeParts::Bad { kind, at } => print_defect(kind, at),
-        ScopeParts::Of {
-            prefix: _,
-            count: _,
-            from: _,
-            to: _,
-            max_bytes: _,
-            next,
-        } => print_read(next),
+        ScopeParts::Of { scope: _, next } => print_read(next),
     }
 }
 

@@ -17,8 +17,7 @@ use Rattle.hash_chain.specs.Chain.{firstLink, FirstOf}
 use Rattle.hash_chain.proofs.ChainLaws.{link-length}
 use Rattle.token_scope.specs.Scopes.{Scope, encodeScope, GoodScope}
 use Rattle.token_scope.specs.Reading.{scopeOf}
-use Rattle.token_scope.specs.declared.Prefix.{Prefix}
-use Rattle.token_scope.specs.declared.Limit.{Limit}
+use Rattle.token_scope.specs.declared.ScopeAt.{ScopeAt}
 use Rattle.token_scope.specs.declared.ScopeParts.the-variants.{Of, Bad}
 use Rattle.token_scope.proofs.ScopeRead.{scope-read}
 use Rattle.token_scope.proofs.Lengths.{scope-short}
@@ -27,7 +26,7 @@ use Rattle.records_table.specs.Order.{sameIds}
 use Rattle.records_table.specs.Tables.{Row, encodeTable, GoodFrom, GoodTable, hasRow, keyIn}
 use Rattle.records_table.specs.Reading.{tableOk, findFrom}
 use Rattle.records_table.proofs.TableLaws.{table-read, find-finds, key-of-row}
-use Rattle.outcome.specs.Handing.{Handed, refused, handed}
+use Rattle.outcome.specs.Decisions.{Decision, refused, granted}
 use Rattle.issue.specs.Issuing.{issueWith, issueThen, issueOf, Issuable}
 use Rattle.issue.proofs.Sizes.{fresh-few}
 
@@ -71,15 +70,15 @@ pub record IsWhole (scope : List ℕ) : Type 0 where
   pub good : GoodScope tree
   pub whole : scope ≡ encodeScope tree
 
-pub scope-whole : (scope : List ℕ) → IsBytes scope → {part : Prefix} {k from to : ℕ} {limit : Limit} {next : ℕ} → scopeOf scope 0 ≡ Of part k from to limit next
+pub scope-whole : (scope : List ℕ) → IsBytes scope → {parts : ScopeAt} {next : ℕ} → scopeOf scope 0 ≡ Of parts next
     → next ≡ length scope → IsWhole scope
-scope-whole scope b {part} {k} {from} {to} {limit} {next} e n =
+scope-whole scope b {parts} {next} e n =
     let x = scope-read scope b 0 e in
     let z : drop next scope ≡ [] = drop-of-length-le scope {i = next} (omega (arith, n)) in
     record { tree = x .tree; good = x .good; whole = x .there ∙ ap (λ (t : List ℕ). encodeScope (x .tree) ++ t) z ∙ append-nil (encodeScope (x .tree)) }
 
 pub issuable : (table tid kid scope key : List ℕ) → IsBytes table → IsBytes scope → tableOk table ≡ true
-    → {part : Prefix} {k from to : ℕ} {limit : Limit} {next : ℕ} → scopeOf scope 0 ≡ Of part k from to limit next → next ≡ length scope
+    → {parts : ScopeAt} {next : ℕ} → scopeOf scope 0 ≡ Of parts next → next ≡ length scope
     → key ≡ findFrom 64 table tid kid 0 → Issuable key tid kid scope
 issuable table tid kid scope key bt bs et es n ek =
     let w = scope-whole scope bs es n in
@@ -99,7 +98,7 @@ module _ (key tid kid scope : List ℕ) where
   fresh-fits w l {tag} e = fresh-few scope tag kid tid (w .scope-short) (ap length e ∙ link-length key tid kid scope) (w .kid-short l) (w .tid-short l)
 
   pub issued : length key ≡ 32 → {tag bytes : List ℕ} → tag ≡ firstLink key tid kid scope → bytes ≡ freshBytes scope tag kid tid
-      → handed (base64url bytes) ≡ issueWith key tid kid scope
+      → granted (base64url bytes) ≡ issueWith key tid kid scope
   unfolding issueWith
   issued l e f = rw (eq-eqb (length key) 32 l, f, e)
 
@@ -117,7 +116,7 @@ module _ (table tid kid scope : List ℕ) where
     unfolding issueOf issueThen
     issue-bad-scope f = rw (e, f)
 
-    module _ {part : Prefix} {k from to : ℕ} {limit : Limit} {next : ℕ} (f : scopeOf scope 0 ≡ Of part k from to limit next) where
+    module _ {parts : ScopeAt} {next : ℕ} (f : scopeOf scope 0 ≡ Of parts next) where
       pub issue-left-over : (next ≡ length scope → ⊥) → refused 4 ≡ issueOf table tid kid scope
       unfolding issueOf issueThen
       issue-left-over n = rw (e, f, ne-eqb next (length scope) n)

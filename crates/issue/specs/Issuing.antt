@@ -1,5 +1,5 @@
 -- Issue, check by check. Document 01, "Numbers and names": "Issue: 1, the scope's reading (4 to 6), 7 (also for a tid or kid of wrong
--- form), 36." The last one is the room's: see Handing of `outcome`.
+-- form), 36." The last one is the room's: see Decisions of `outcome`.
 use mathlib.Core.Path.{_≡_}
 use mathlib.Core.List.{List}
 use Prim.Native.Nat.{ℕ, _≤_}
@@ -13,19 +13,19 @@ use Rattle.token_scope.specs.declared.ScopeParts.{ScopeParts}
 use Rattle.token_scope.specs.declared.ScopeParts.the-variants.{Of, Bad}
 use Rattle.token.specs.Writing.{freshBytes}
 use Rattle.records_table.specs.Reading.{tableOk, findFrom}
-use Rattle.outcome.specs.Handing.{Handed, refused, handed}
+use Rattle.outcome.specs.Decisions.{Decision, refused, granted}
 
 -- 7; then the text of a fresh token, tagged with the first link
-unfoldable pub issueWith : List ℕ → List ℕ → List ℕ → List ℕ → Handed
-issueWith key tid kid scope = pick (eqb (length key) 32) (handed (base64url (freshBytes scope (firstLink key tid kid scope) kid tid))) (refused 7)
+unfoldable pub issueWith : List ℕ → List ℕ → List ℕ → List ℕ → Decision
+issueWith key tid kid scope = pick (eqb (length key) 32) (granted (base64url (freshBytes scope (firstLink key tid kid scope) kid tid))) (refused 7)
 
 -- 4 to 6: the bytes are one scope, and nothing is left over
-unfoldable pub issueThen : List ℕ → List ℕ → List ℕ → List ℕ → ScopeParts → Handed
+unfoldable pub issueThen : List ℕ → List ℕ → List ℕ → List ℕ → ScopeParts → Decision
 issueThen table tid kid scope (Bad kind at) = refused kind
-issueThen table tid kid scope (Of prefix count from to limit next) = pick (eqb next (length scope)) (issueWith (findFrom 64 table tid kid 0) tid kid scope) (refused 4)
+issueThen table tid kid scope (Of parts next) = pick (eqb next (length scope)) (issueWith (findFrom 64 table tid kid 0) tid kid scope) (refused 4)
 
 -- 1
-unfoldable pub issueOf : List ℕ → List ℕ → List ℕ → List ℕ → Handed
+unfoldable pub issueOf : List ℕ → List ℕ → List ℕ → List ℕ → Decision
 issueOf table tid kid scope = pick (tableOk table) (issueThen table tid kid scope (scopeOf scope 0)) (refused 1)
 
 -- what the writing of a fresh token needs

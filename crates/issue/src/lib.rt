@@ -3,13 +3,13 @@
 use outcome::Outcome;
 use token_scope::ScopeParts;
 ghost use mathlib.Core.Path.{_≡_};
-ghost use Rattle.outcome.specs.Handing.{Handing};
+ghost use Rattle.outcome.specs.Decisions.{Carried};
 ghost use Rattle.issue.specs.Issuing.{issueWith, issueOf, Issuable};
 
 // With the key, if one was found. 752 bytes are the longest fresh token.
 fn issue_with(key: &[u8], tid: &[u8], kid: &[u8], scope: &[u8], room: &mut [u8]) -> Outcome
     requires { ⌜ Issuable (now key) (now tid) (now kid) (now scope) ⌝ }
-    ensures { λ r. ⌜ Handing (issueWith (now (key .entry)) (now (tid .entry)) (now (kid .entry)) (now (scope .entry))) (now (room .entry)) r (now (room .exit)) ⌝ }
+    ensures { λ r. ⌜ Carried (issueWith (now (key .entry)) (now (tid .entry)) (now (kid .entry)) (now (scope .entry))) (now (room .entry)) r (now (room .exit)) ⌝ }
 {
     if key.len() == 32 {
         let tag = hash_chain::first_link(key, tid, kid, scope);
@@ -21,19 +21,12 @@ fn issue_with(key: &[u8], tid: &[u8], kid: &[u8], scope: &[u8], room: &mut [u8])
 }
 
 pub fn issue(table: &[u8], tid: &[u8], kid: &[u8], scope: &[u8], room: &mut [u8]) -> Outcome
-    ensures { λ r. ⌜ Handing (issueOf (now (table .entry)) (now (tid .entry)) (now (kid .entry)) (now (scope .entry))) (now (room .entry)) r (now (room .exit)) ⌝ }
+    ensures { λ r. ⌜ Carried (issueOf (now (table .entry)) (now (tid .entry)) (now (kid .entry)) (now (scope .entry))) (now (room .entry)) r (now (room .exit)) ⌝ }
 {
     if records_table::table_ok(table) {
         return match token_scope::read_scope(scope, 0) {
             ScopeParts::Bad { kind, at: _ } => outcome::refusal(kind),
-            ScopeParts::Of {
-                prefix: _,
-                count: _,
-                from: _,
-                to: _,
-                max_bytes: _,
-                next,
-            } => {
+            ScopeParts::Of { scope: _, next } => {
                 if next == scope.len() {
                     return issue_with(records_table::find(table, tid, kid), tid, kid, scope, room);
                 }

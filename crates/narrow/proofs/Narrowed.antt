@@ -2,7 +2,7 @@
 use mathlib.Core.Path.{_≡_}
 use mathlib.Core.Bool.{true, false}
 use mathlib.Core.List.{List}
-use Prim.Native.Nat.{ℕ, _+_, _≤_, _<_}
+use Prim.Native.Nat.{ℕ, _≤_, _<_}
 use borrow.Author.Tests.{eq-eqb, ne-eqb, lt-ltb, le-ltb}
 use lib.ListN.{length}
 use Rattle.basis.specs.Basis.{between}
@@ -10,80 +10,73 @@ use Rattle.basis.specs.Same.{sameOf}
 use Rattle.text_reading.specs.Reading.{bytesOf, Filled}
 use Rattle.text_reading.specs.declared.Decoded.{Decoded}
 use Rattle.text_reading.specs.declared.Decoded.the-variants.{Bytes, Bad as NoText, Short}
-use Rattle.hash_chain.specs.Chain.{firstLink}
 use Rattle.token_caveat.specs.Reading.{caveatOf}
 use Rattle.token.specs.Reading.{tokenOf}
 use Rattle.token.specs.declared.TokenParts.the-variants.{Of, Bad}
 use Rattle.records_table.specs.Reading.{tableOk, findFrom}
-use Rattle.verify_walk.specs.declared.TokenAt.{TokenAt}
-use Rattle.verify.proofs.Found.{placed}
-use Rattle.outcome.specs.Handing.{Handed, refused}
-use Rattle.narrow_child.specs.Growing.{caveatThen}
-use Rattle.narrow.specs.Narrowing.{linksOf, linkThen, lastLink, keyThen, tokenThen, bytesThen, decodedThen, textThen, narrowOf}
+use Rattle.token.specs.declared.TokenAt.{TokenAt}
+use Rattle.verify_walk.specs.Walking.{linkFirst, linksOf}
+use Rattle.outcome.specs.Decisions.{Decision, refused}
+use Rattle.narrow_child.specs.Child.{caveatAdded}
+use Rattle.narrow.specs.Narrowing.{lastLink, tagNarrowed, keyNarrowed, tokenNarrowed, bytesNarrowed, decodedNarrowed, textNarrowed, narrowOf}
 
-module _ (key s : List ℕ) (p : TokenAt) (caveats caveat : List ℕ) {tid kid scope first link tag : List ℕ}
-    (et : tid ≡ between s (p .tid) (p .«tid_end»)) (ek : kid ≡ between s (p .kid) (p .«kid_end»)) (es : scope ≡ between s (p .scope) (p .«scope_end»))
-    (ef : first ≡ firstLink key tid kid scope) (el : link ≡ linksOf (p .count) s key (p .from) first) (eg : tag ≡ between s (p .tag) (p .tag + 32)) where
+module _ (key s : List ℕ) (p : TokenAt) (caveat : List ℕ) {first link tag : List ℕ} (ef : first ≡ linkFirst key s p) (el : link ≡ linksOf s (p .caveats) key first)
+    (eg : tag ≡ between s (p .tag)) where
   is-last : link ≡ lastLink key s p
-  is-last = rw (el, ef, et, ek, es)
+  is-last = rw (el, ef)
 
-  pub narrow-other-tag : sameOf link tag ≡ false → refused 8 ≡ linkThen key (lastLink key s p) s p caveats caveat
-  unfolding linkThen
+  pub narrow-other-tag : sameOf link tag ≡ false → refused 8 ≡ tagNarrowed key s p caveat
+  unfolding tagNarrowed
   narrow-other-tag e = rw (← is-last, ← eg, e)
 
-  pub narrow-right-tag : sameOf link tag ≡ true → caveatThen key link s p caveats caveat (caveatOf caveat) ≡ linkThen key (lastLink key s p) s p caveats caveat
-  unfolding linkThen
+  pub narrow-right-tag : sameOf link tag ≡ true → caveatAdded key link s p caveat (caveatOf caveat) ≡ tagNarrowed key s p caveat
+  unfolding tagNarrowed
   narrow-right-tag e = rw (← is-last, ← eg, e)
 
 module _ (table s caveat : List ℕ) where
-  pub narrow-unreadable : {kind at : ℕ} → tokenOf s ≡ Bad kind at → refused kind ≡ bytesThen table s caveat
-  unfolding bytesThen tokenThen
+  pub narrow-unreadable : {kind at : ℕ} → tokenOf s ≡ Bad kind at → refused kind ≡ bytesNarrowed table s caveat
+  unfolding bytesNarrowed tokenNarrowed
   narrow-unreadable e = rw e
 
-  module _ {count from to scope scope-end tag kid kid-end tid tid-end : ℕ} (e : tokenOf s ≡ Of count from to scope scope-end tag kid kid-end tid tid-end)
-      {t k key : List ℕ} (et : t ≡ between s tid tid-end) (ek : k ≡ between s kid kid-end) (ef : key ≡ findFrom 64 table t k 0) where
-    abbrev at : TokenAt
-    at = placed count from scope scope-end tag kid kid-end tid tid-end
-
-    found : keyThen key s at (between s from to) caveat ≡ bytesThen table s caveat
-    unfolding bytesThen tokenThen
+  module _ {p : TokenAt} (e : tokenOf s ≡ Of p) {t k key : List ℕ} (et : t ≡ between s (p .tid)) (ek : k ≡ between s (p .kid)) (ef : key ≡ findFrom 64 table t k 0) where
+    found : keyNarrowed key s p caveat ≡ bytesNarrowed table s caveat
+    unfolding bytesNarrowed tokenNarrowed
     found = rw (e, ef, et, ek)
 
-    pub narrow-found : length key ≡ 32 → {caveats : List ℕ} → caveats ≡ between s from to
-        → linkThen key (lastLink key s at) s at caveats caveat ≡ bytesThen table s caveat
-    unfolding keyThen
-    narrow-found l ec = rw ec (rw (eq-eqb (length key) 32 l) at found)
+    pub narrow-found : length key ≡ 32 → tagNarrowed key s p caveat ≡ bytesNarrowed table s caveat
+    unfolding keyNarrowed
+    narrow-found l = rw (eq-eqb (length key) 32 l) at found
 
-    pub narrow-no-key : (length key ≡ 32 → ⊥) → refused 7 ≡ bytesThen table s caveat
-    unfolding keyThen
+    pub narrow-no-key : (length key ≡ 32 → ⊥) → refused 7 ≡ bytesNarrowed table s caveat
+    unfolding keyNarrowed
     narrow-no-key l = rw (ne-eqb (length key) 32 l) at found
 
 module _ (table text caveat : List ℕ) where
-  pub narrow-too-long : 5462 < length text → refused 5 ≡ textThen table text caveat
-  unfolding textThen
+  pub narrow-too-long : 5462 < length text → refused 5 ≡ textNarrowed table text caveat
+  unfolding textNarrowed
   narrow-too-long h = rw (lt-ltb 5462 (length text) h)
 
   module _ (h : length text ≤ 5462) (entry : List ℕ) (l : length entry ≡ 4096) (r : Decoded) (exit : List ℕ) (f : Filled text entry r exit) where
-    decoded : decodedThen table text caveat r ≡ textThen table text caveat
-    unfolding textThen
+    decoded : decodedNarrowed table text caveat r ≡ textNarrowed table text caveat
+    unfolding textNarrowed
     decoded = rw (le-ltb 5462 (length text) h, ← l, f .answer)
 
-    pub narrow-not-text : {at : ℕ} → r ≡ NoText at → refused 3 ≡ textThen table text caveat
-    unfolding decodedThen
+    pub narrow-not-text : {at : ℕ} → r ≡ NoText at → refused 3 ≡ textNarrowed table text caveat
+    unfolding decodedNarrowed
     narrow-not-text e = rw e at decoded
 
-    pub narrow-no-room : r ≡ Short → refused 5 ≡ textThen table text caveat
-    unfolding decodedThen
+    pub narrow-no-room : r ≡ Short → refused 5 ≡ textNarrowed table text caveat
+    unfolding decodedNarrowed
     narrow-no-room e = rw e at decoded
 
-    pub narrow-whole : {n : ℕ} → r ≡ Bytes n → {s : List ℕ} → s ≡ bytesOf text → bytesThen table s caveat ≡ textThen table text caveat
-    unfolding decodedThen
+    pub narrow-whole : {n : ℕ} → r ≡ Bytes n → {s : List ℕ} → s ≡ bytesOf text → bytesNarrowed table s caveat ≡ textNarrowed table text caveat
+    unfolding decodedNarrowed
     narrow-whole e s = rw s (rw e at decoded)
 
   pub narrow-bad-table : tableOk table ≡ false → refused 1 ≡ narrowOf table text caveat
   unfolding narrowOf
   narrow-bad-table e = rw e
 
-  pub narrow-good-table : tableOk table ≡ true → textThen table text caveat ≡ narrowOf table text caveat
+  pub narrow-good-table : tableOk table ≡ true → textNarrowed table text caveat ≡ narrowOf table text caveat
   unfolding narrowOf
   narrow-good-table e = rw e

@@ -1,47 +1,49 @@
 // The child of a token that may be narrowed: the added caveat is read, and the parent's parts are written again with
 // it behind their caveats and the next link as their tag.
 use outcome::Outcome;
+use token::TokenAt;
 use token_caveat_values::CaveatParts;
-use verify_walk::TokenAt;
 ghost use mathlib.Core.Path.{_≡_};
 ghost use lib.ListN.{length};
 ghost use Rattle.token_caveat.specs.Reading.{caveatOf};
-ghost use Rattle.outcome.specs.Handing.{Handing};
-ghost use Rattle.narrow_child.specs.Growing.{grown, caveatThen};
+ghost use Rattle.outcome.specs.Decisions.{Carried};
+ghost use Rattle.narrow_child.specs.Child.{childOf, caveatAdded};
 
 // A caveat that is read: the child, if its parent is not full and it is not too long. A caveat of over 4,096
 // bytes is not hashed, since no child of it is short enough.
-fn grow(
+fn write_child(
     key: &[u8],
     link: [u8; 32],
     s: &[u8],
-    at: TokenAt,
-    caveats: &[u8],
+    parent: TokenAt,
     caveat: &[u8],
     room: &mut [u8],
 ) -> Outcome
     requires { ⌜ length (now key) ≡ 32 ⌝ }
-    ensures { λ r. ⌜ Handing (grown (now (key .entry)) link (now (s .entry)) at (now (caveats .entry)) (now (caveat .entry))) (now (room .entry)) r (now (room .exit)) ⌝ }
+    ensures { λ r. ⌜ Carried (childOf (now (key .entry)) link (now (s .entry)) parent (now (caveat .entry))) (now (room .entry)) r (now (room .exit)) ⌝ }
 {
-    if 64 <= at.count {
+    let count = parent.caveats.count;
+    let span = parent.caveats.span;
+    let scope = parent.scope;
+    let kid = parent.kid;
+    let tid = parent.tid;
+    if 64 <= count {
         return outcome::refusal(34);
     }
     if 4096 < caveat.len() {
         return outcome::refusal(35);
     }
     let tag = hash_chain::next_link(key, link, caveat);
-    let scope = basis::part(s, at.scope, at.scope_end);
-    let kid = basis::part(s, at.kid, at.kid_end);
-    let tid = basis::part(s, at.tid, at.tid_end);
+    let caveats = basis::lend(s, span);
     let mut bytes = [0u8; 4096];
     let n = token_writing::write_token(
-        at.count + 1,
+        count + 1,
         caveats,
         caveat,
-        scope,
+        basis::lend(s, scope),
         &tag,
-        kid,
-        tid,
+        basis::lend(s, kid),
+        basis::lend(s, tid),
         &mut bytes,
     );
     if n == 0 {
@@ -55,19 +57,18 @@ pub fn add_caveat(
     key: &[u8],
     link: [u8; 32],
     s: &[u8],
-    at: TokenAt,
-    caveats: &[u8],
+    parent: TokenAt,
     caveat: &[u8],
     room: &mut [u8],
 ) -> Outcome
     requires { ⌜ length (now key) ≡ 32 ⌝ }
-    ensures { λ r. ⌜ Handing (caveatThen (now (key .entry)) link (now (s .entry)) at (now (caveats .entry)) (now (caveat .entry)) (caveatOf (now (caveat .entry)))) (now (room .entry)) r (now (room .exit)) ⌝ }
+    ensures { λ r. ⌜ Carried (caveatAdded (now (key .entry)) link (now (s .entry)) parent (now (caveat .entry)) (caveatOf (now (caveat .entry)))) (now (room .entry)) r (now (room .exit)) ⌝ }
 {
     match token_caveat::read_caveat(caveat) {
         CaveatParts::Bad { kind, at: _ } => outcome::refusal(kind + 27),
         CaveatParts::Of { caveat: _, next } => {
             if next == caveat.len() {
-                return grow(key, link, s, at, caveats, caveat, room);
+                return write_child(key, link, s, parent, caveat, room);
             }
             outcome::refusal(31)
         }

@@ -1,3 +1,3 @@
 pub mod Sizes
-pub mod Handings
+pub mod Carrying
 pub mod OneAnswer

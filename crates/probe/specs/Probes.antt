@@ -14,8 +14,8 @@ use Rattle.text_writing.specs.declared.Encoded.{Encoded}
 use Rattle.text_writing.specs.declared.Encoded.the-variants.{Text, NoRoom}
 use Rattle.cbor_heads.specs.declared.Head.{Head}
 use Rattle.cbor_heads.specs.declared.Head.the-variants.{Got, Bad as NoHead}
-use Rattle.cbor_strings.specs.declared.Span.{Span}
-use Rattle.cbor_strings.specs.declared.Span.the-variants.{Of, Bad as NoSpan}
+use Rattle.cbor_strings.specs.declared.Content.{Content}
+use Rattle.cbor_strings.specs.declared.Content.the-variants.{Of, Bad as NoContent}
 use Rattle.cbor_strings.specs.declared.Class.{Class}
 use Rattle.cbor_strings.specs.declared.Class.the-variants.{Name, Printable, Path, Upper, Hex}
 use Rattle.cbor_values.specs.declared.Item.{Item}
@@ -44,9 +44,9 @@ abbrev pub headProbe : Head → Probed
 headProbe (Got major value next) = told 0 value next major
 headProbe (NoHead at) = told 4 at 0 0
 
-abbrev pub spanProbe : Span → Probed
-spanProbe (Of from to) = told 0 from to 0
-spanProbe (NoSpan kind at) = told kind at 0 0
+abbrev pub contentProbe : Content → Probed
+contentProbe (Of part) = told 0 (part .from) (part .to) 0
+contentProbe (NoContent kind at) = told kind at 0 0
 
 abbrev pub itemProbe : Item → Probed
 itemProbe (End next) = told 0 next 0 0
@@ -54,7 +54,7 @@ itemProbe (NoItem kind at) = told kind at 0 0
 
 -- the address as one number fits 64 bits whatever its four numbers are
 abbrev pub cidrProbe : Cidr → Probed
-cidrProbe (Prefix a b c d n) = told 0 (addressOf a b c d) n 0
+cidrProbe (Prefix w) = told 0 (addressOf (w .a) (w .b) (w .c) (w .d)) (w .size) 0
 cidrProbe NoPrefix = told 4 0 0 0
 
 abbrev pub boolProbe : Bool → Probed

@@ -1,7 +1,7 @@
 // What the host tests call beyond the product's entry points. Nothing of the product stands on it.
 use cbor_heads::Head;
 use cbor_strings::Class;
-use cbor_strings::Span;
+use cbor_strings::Content;
 use cbor_values::Item;
 use keyed_hash::Hashed;
 use text_reading::Decoded;
@@ -15,7 +15,7 @@ ghost use Rattle.cbor_strings.specs.Strings.{readRun, readString};
 ghost use Rattle.cbor_values.specs.Reading.{valueOf};
 ghost use Rattle.token_cidr.specs.Bits.{agreeOf};
 ghost use Rattle.token_cidr.specs.Reading.{cidrOf};
-ghost use Rattle.probe.specs.Probes.{decodedProbe, encodedProbe, headProbe, spanProbe, itemProbe, classAt};
+ghost use Rattle.probe.specs.Probes.{decodedProbe, encodedProbe, headProbe, contentProbe, itemProbe, classAt};
 ghost use Rattle.probe.specs.Probes.{cidrProbe, boolProbe};
 ghost use Rattle.probe.specs.Probes.{DecodeProbed, EncodeProbed};
 
@@ -98,17 +98,17 @@ fn head_probe(h: Head) -> Probed
     }
 }
 
-fn span_probe(p: Span) -> Probed
-    ensures { λ r. ⌜ r ≡ spanProbe p ⌝ }
+fn content_probe(p: Content) -> Probed
+    ensures { λ r. ⌜ r ≡ contentProbe p ⌝ }
 {
     match p {
-        Span::Of { from, to } => Probed {
+        Content::Of { span } => Probed {
             kind: 0,
-            first: from as u64,
-            second: to as u64,
+            first: span.from as u64,
+            second: span.to as u64,
             third: 0,
         },
-        Span::Bad { kind, at } => Probed {
+        Content::Bad { kind, at } => Probed {
             kind,
             first: at as u64,
             second: 0,
@@ -140,10 +140,10 @@ fn cidr_probe(p: Cidr) -> Probed
     ensures { λ r. ⌜ r ≡ cidrProbe p ⌝ }
 {
     match p {
-        Cidr::Of { a, b, c, d, n } => Probed {
+        Cidr::Of { network: w } => Probed {
             kind: 0,
-            first: ((a as u64 * 256 + b as u64) * 256 + c as u64) * 256 + d as u64,
-            second: n as u64,
+            first: ((w.a as u64 * 256 + w.b as u64) * 256 + w.c as u64) * 256 + w.d as u64,
+            second: w.size as u64,
             third: 0,
         },
         Cidr::Bad => Probed {
@@ -209,16 +209,16 @@ pub extern "C" fn probe_read_head(s: &[u8], at: usize) -> Probed
 
 #[no_mangle]
 pub extern "C" fn probe_read_run(s: &[u8], at: usize, major: u8, low: u64, high: u64) -> Probed
-    ensures { λ r. ⌜ r ≡ spanProbe (readRun (now (s .entry)) at major low high) ⌝ }
+    ensures { λ r. ⌜ r ≡ contentProbe (readRun (now (s .entry)) at major low high) ⌝ }
 {
-    span_probe(cbor_strings::read_run(s, at, major, low, high))
+    content_probe(cbor_strings::read_run(s, at, major, low, high))
 }
 
 #[no_mangle]
 pub extern "C" fn probe_read_string(s: &[u8], at: usize, class: u32, low: u64, high: u64) -> Probed
-    ensures { λ r. ⌜ r ≡ spanProbe (readString (now (s .entry)) at (classAt class) low high) ⌝ }
+    ensures { λ r. ⌜ r ≡ contentProbe (readString (now (s .entry)) at (classAt class) low high) ⌝ }
 {
-    span_probe(cbor_strings::read_string(s, at, class_at(class), low, high))
+    content_probe(cbor_strings::read_string(s, at, class_at(class), low, high))
 }
 
 #[no_mangle]

@@ -1,9 +1,11 @@
 // Scopes, caveats and tokens as the host tests read them. Nothing of the product stands on it.
+use basis::Part;
+use basis::Span;
+use cbor_values::ListAt;
 use token::TokenParts;
-use token_caveat_values::Caveat;
+use token_caveat_values::CaveatAt;
 use token_caveat_values::CaveatParts;
 use token_scope::Limit;
-use token_scope::Prefix;
 use token_scope::ScopeParts;
 ghost use mathlib.Core.Path.{_≡_};
 ghost use mathlib.Core.List.{_++_};
@@ -31,27 +33,19 @@ fn refused(kind: u32, at: usize) -> Parts
     }
 }
 
-// A scope whose prefix lies from a to b.
-fn limit_probe(
-    a: usize,
-    b: usize,
-    count: u64,
-    from: usize,
-    to: usize,
-    limit: Limit,
-    next: usize,
-) -> Parts
-    ensures { λ r. ⌜ r ≡ limitProbe a b count from to limit next ⌝ }
+// A scope whose prefix lies at `prefix`.
+fn limit_probe(prefix: Span, methods: ListAt, limit: Limit, next: usize) -> Parts
+    ensures { λ r. ⌜ r ≡ limitProbe prefix methods limit next ⌝ }
 {
     match limit {
         Limit::Absent => Parts {
             kind: 0,
             numbers: [
-                a as u64,
-                b as u64,
-                count,
-                from as u64,
-                to as u64,
+                prefix.from as u64,
+                prefix.to as u64,
+                methods.count,
+                methods.span.from as u64,
+                methods.span.to as u64,
                 0,
                 0,
                 next as u64,
@@ -62,11 +56,11 @@ fn limit_probe(
         Limit::Of { n } => Parts {
             kind: 0,
             numbers: [
-                a as u64,
-                b as u64,
-                count,
-                from as u64,
-                to as u64,
+                prefix.from as u64,
+                prefix.to as u64,
+                methods.count,
+                methods.span.from as u64,
+                methods.span.to as u64,
                 1,
                 n,
                 next as u64,
@@ -82,17 +76,15 @@ fn scope_probe(p: ScopeParts) -> Parts
 {
     match p {
         ScopeParts::Bad { kind, at } => refused(kind, at),
-        ScopeParts::Of {
-            prefix,
-            count,
-            from,
-            to,
-            max_bytes,
-            next,
-        } => match prefix {
-            Prefix::Absent => limit_probe(0, 0, count, from, to, max_bytes, next),
-            Prefix::Of { from: a, to: b } => limit_probe(a, b, count, from, to, max_bytes, next),
-        },
+        ScopeParts::Of { scope, next } => {
+            let prefix = scope.prefix;
+            let methods = scope.methods;
+            let max_bytes = scope.max_bytes;
+            match prefix {
+                Part::Absent => limit_probe(Span { from: 0, to: 0 }, methods, max_bytes, next),
+                Part::At { span } => limit_probe(span, methods, max_bytes, next),
+            }
+        }
     }
 }
 
@@ -113,36 +105,24 @@ fn address_of(a: u32, b: u32, c: u32, d: u32) -> u64
 }
 
 // What a caveat of a length demands.
-fn demand_probe(caveat: Caveat, next: usize) -> Parts
+fn demand_probe(caveat: CaveatAt, next: usize) -> Parts
     ensures { λ r. ⌜ r ≡ demandProbe caveat next ⌝ }
 {
     match caveat {
-        Caveat::Exp { n } => Parts {
+        CaveatAt::Exp { n } => Parts {
             kind: 0,
             numbers: [0, n, 0, 0, 0, 0, 0, 0, 0, next as u64],
         },
-        Caveat::Nbf { n } => Parts {
+        CaveatAt::Nbf { n } => Parts {
             kind: 0,
             numbers: [1, n, 0, 0, 0, 0, 0, 0, 0, next as u64],
         },
-        Caveat::Aud { from, to } => Parts {
-            kind: 0,
-            numbers: [2, from as u64, to as u64, 0, 0, 0, 0, 0, 0, next as u64],
-        },
-        Caveat::Method { count, from, to } => Parts {
-            kind: 0,
-            numbers: [3, count, from as u64, to as u64, 0, 0, 0, 0, 0, next as u64],
-        },
-        Caveat::PathPrefix { from, to } => Parts {
-            kind: 0,
-            numbers: [4, from as u64, to as u64, 0, 0, 0, 0, 0, 0, next as u64],
-        },
-        Caveat::IpCidr { a, b, c, d, n } => Parts {
+        CaveatAt::Aud { span } => Parts {
             kind: 0,
             numbers: [
-                5,
-                address_of(a, b, c, d),
-                n as u64,
+                2,
+                span.from as u64,
+                span.to as u64,
                 0,
                 0,
                 0,
@@ -152,43 +132,103 @@ fn demand_probe(caveat: Caveat, next: usize) -> Parts
                 next as u64,
             ],
         },
-        Caveat::BytesLe { n } => Parts {
+        CaveatAt::Method { methods } => Parts {
+            kind: 0,
+            numbers: [
+                3,
+                methods.count,
+                methods.span.from as u64,
+                methods.span.to as u64,
+                0,
+                0,
+                0,
+                0,
+                0,
+                next as u64,
+            ],
+        },
+        CaveatAt::PathPrefix { span } => Parts {
+            kind: 0,
+            numbers: [
+                4,
+                span.from as u64,
+                span.to as u64,
+                0,
+                0,
+                0,
+                0,
+                0,
+                0,
+                next as u64,
+            ],
+        },
+        CaveatAt::IpCidr { network } => Parts {
+            kind: 0,
+            numbers: [
+                5,
+                address_of(network.a, network.b, network.c, network.d),
+                network.size as u64,
+                0,
+                0,
+                0,
+                0,
+                0,
+                0,
+                next as u64,
+            ],
+        },
+        CaveatAt::BytesLe { n } => Parts {
             kind: 0,
             numbers: [6, n, 0, 0, 0, 0, 0, 0, 0, next as u64],
         },
-        Caveat::Rate { per_s, burst } => Parts {
+        CaveatAt::Rate { per_s, burst } => Parts {
             kind: 0,
             numbers: [7, per_s, burst, 0, 0, 0, 0, 0, 0, next as u64],
         },
-        Caveat::Tenant { from, to } => Parts {
+        CaveatAt::Tenant { span } => Parts {
             kind: 0,
-            numbers: [8, from as u64, to as u64, 0, 0, 0, 0, 0, 0, next as u64],
+            numbers: [
+                8,
+                span.from as u64,
+                span.to as u64,
+                0,
+                0,
+                0,
+                0,
+                0,
+                0,
+                next as u64,
+            ],
         },
-        Caveat::Amnesia { on } => Parts {
+        CaveatAt::Amnesia { on } => Parts {
             kind: 0,
             numbers: [9, bit_of(on), 0, 0, 0, 0, 0, 0, 0, next as u64],
         },
-        Caveat::GovPolicyDigest { from, to } => Parts {
+        CaveatAt::GovPolicyDigest { span } => Parts {
             kind: 0,
-            numbers: [10, from as u64, to as u64, 0, 0, 0, 0, 0, 0, next as u64],
+            numbers: [
+                10,
+                span.from as u64,
+                span.to as u64,
+                0,
+                0,
+                0,
+                0,
+                0,
+                0,
+                next as u64,
+            ],
         },
-        Caveat::Custom {
-            ns,
-            ns_end,
-            value,
-            value_end,
-            name,
-            name_end,
-        } => Parts {
+        CaveatAt::Custom { custom } => Parts {
             kind: 0,
             numbers: [
                 11,
-                ns as u64,
-                ns_end as u64,
-                value as u64,
-                value_end as u64,
-                name as u64,
-                name_end as u64,
+                custom.ns.from as u64,
+                custom.ns.to as u64,
+                custom.value.from as u64,
+                custom.value.to as u64,
+                custom.name.from as u64,
+                custom.name.to as u64,
                 0,
                 0,
                 next as u64,
@@ -211,30 +251,19 @@ fn token_probe(p: TokenParts) -> Parts
 {
     match p {
         TokenParts::Bad { kind, at } => refused(kind, at),
-        TokenParts::Of {
-            count,
-            from,
-            to,
-            scope,
-            scope_end,
-            tag,
-            kid,
-            kid_end,
-            tid,
-            tid_end,
-        } => Parts {
+        TokenParts::Of { token } => Parts {
             kind: 0,
             numbers: [
-                count,
-                from as u64,
-                to as u64,
-                scope as u64,
-                scope_end as u64,
-                tag as u64,
-                kid as u64,
-                kid_end as u64,
-                tid as u64,
-                tid_end as u64,
+                token.caveats.count,
+                token.caveats.span.from as u64,
+                token.caveats.span.to as u64,
+                token.scope.from as u64,
+                token.scope.to as u64,
+                token.tag.from as u64,
+                token.kid.from as u64,
+                token.kid.to as u64,
+                token.tid.from as u64,
+                token.tid.to as u64,
             ],
         },
     }

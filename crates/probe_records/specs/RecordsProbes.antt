@@ -3,14 +3,11 @@
 use mathlib.Core.Bool.{Bool, true, false}
 use mathlib.Core.List.{List, [], _∷_}
 use Prim.Native.Nat.{ℕ}
-use Rattle.records_request.specs.declared.Peer.{Peer}
-use Rattle.records_request.specs.declared.Peer.the-variants.{Absent as NoPeer, At as PeerAt}
-use Rattle.records_request.specs.declared.Digest.{Digest}
-use Rattle.records_request.specs.declared.Digest.the-variants.{Absent as NoDigest, At as DigestAt}
-use Rattle.records_request.specs.declared.Rate.{Rate}
-use Rattle.records_request.specs.declared.Rate.the-variants.{Absent as NoRate, Of as RateOf}
-use Rattle.records_request.specs.declared.Audience.{Audience}
-use Rattle.records_request.specs.declared.Audience.the-variants.{Absent as NoAudience, Of as AudienceAt}
+use Rattle.basis.specs.declared.Part.{Part}
+use Rattle.basis.specs.declared.Part.the-variants.{Absent, At}
+use Rattle.records_request.specs.declared.RateAt.{RateAt}
+use Rattle.records_request.specs.declared.RateAt.the-variants.{Absent as NoRate, Of as RateIs}
+use Rattle.records_request.specs.declared.RequestAt.{RequestAt}
 use Rattle.records_request.specs.declared.RequestParts.{RequestParts}
 use Rattle.records_request.specs.declared.RequestParts.the-variants.{Of, Bad}
 use Rattle.probe_records.specs.declared.Listed.{Listed}
@@ -23,27 +20,21 @@ bitOf false = 0
 abbrev pub told : ℕ → ℕ → ℕ → Told
 told n x y = record { there = n; a = x; b = y }
 
-abbrev pub peerProbe : Peer → Told
-peerProbe NoPeer = told 0 0 0
-peerProbe (PeerAt from) = told 1 from 0
+abbrev pub partProbe : Part → Told
+partProbe Absent = told 0 0 0
+partProbe (At part) = told 1 (part .from) (part .to)
 
-abbrev pub digestProbe : Digest → Told
-digestProbe NoDigest = told 0 0 0
-digestProbe (DigestAt from) = told 1 from 0
-
-abbrev pub rateProbe : Rate → Told
+abbrev pub rateProbe : RateAt → Told
 rateProbe NoRate = told 0 0 0
-rateProbe (RateOf per-s burst) = told 1 per-s burst
+rateProbe (RateIs per-s burst) = told 1 per-s burst
 
-abbrev pub audienceProbe : Audience → Told
-audienceProbe NoAudience = told 0 0 0
-audienceProbe (AudienceAt from to) = told 1 from to
-
-abbrev pub numbersOf : ℕ → ℕ → ℕ → ℕ → Told → Told → Told → ℕ → ℕ → ℕ → ℕ → ℕ → ℕ → Told → List ℕ
-numbersOf t size skew on x y z m me p pe n ne w =
-    t ∷ size ∷ skew ∷ on ∷ x .there ∷ x .a ∷ y .there ∷ y .a ∷ z .there ∷ z .a ∷ z .b ∷ m ∷ me ∷ p ∷ pe ∷ n ∷ ne ∷ w .there ∷ w .a ∷ w .b ∷ []
+-- of a peer and a digest, whose lengths are known, only where they begin is told
+abbrev pub numbersOf : RequestAt → ℕ → Told → Told → Told → Told → List ℕ
+numbersOf p on x y z w =
+    p .now ∷ p .size ∷ p .skew ∷ on ∷ x .there ∷ x .a ∷ y .there ∷ y .a ∷ z .there ∷ z .a ∷ z .b
+    ∷ p .method .from ∷ p .method .to ∷ p .path .from ∷ p .path .to ∷ p .tenant .from ∷ p .tenant .to ∷ w .there ∷ w .a ∷ w .b ∷ []
 
 abbrev pub requestProbe : RequestParts → Listed
 requestProbe Bad = record { kind = 2; numbers = 0 ∷ 0 ∷ 0 ∷ 0 ∷ 0 ∷ 0 ∷ 0 ∷ 0 ∷ 0 ∷ 0 ∷ 0 ∷ 0 ∷ 0 ∷ 0 ∷ 0 ∷ 0 ∷ 0 ∷ 0 ∷ 0 ∷ 0 ∷ [] }
-requestProbe (Of t size skew on peer digest rate m me p pe n ne audience) =
-    record { kind = 0; numbers = numbersOf t size skew (bitOf on) (peerProbe peer) (digestProbe digest) (rateProbe rate) m me p pe n ne (audienceProbe audience) }
+requestProbe (Of p) =
+    record { kind = 0; numbers = numbersOf p (bitOf (p .amnesia)) (partProbe (p .peer)) (partProbe (p .digest)) (rateProbe (p .rate)) (partProbe (p .audience)) }

@@ -1,14 +1,12 @@
 // Key tables and requests as the host tests read them. Nothing of the product stands on it.
-use records_request::Audience;
-use records_request::Digest;
-use records_request::Peer;
-use records_request::Rate;
+use basis::Part;
+use records_request::RateAt;
 use records_request::RequestParts;
 ghost use mathlib.Core.Path.{_≡_};
 ghost use Rattle.basis.specs.Basis.{Written};
 ghost use Rattle.records_table.specs.Reading.{tableOk, lookupOf};
 ghost use Rattle.records_request.specs.Reading.{requestOf};
-ghost use Rattle.probe_records.specs.RecordsProbes.{bitOf, peerProbe, digestProbe, rateProbe, audienceProbe, requestProbe};
+ghost use Rattle.probe_records.specs.RecordsProbes.{bitOf, partProbe, rateProbe, requestProbe};
 
 // An answer as numbers: a host cannot take an enum apart by Rattle's layout.
 #[repr(C)]
@@ -30,70 +28,36 @@ fn bit_of(b: bool) -> u32
     if b { 1 } else { 0 }
 }
 
-fn peer_probe(p: Peer) -> Told
-    ensures { λ r. ⌜ r ≡ peerProbe p ⌝ }
+fn part_probe(p: Part) -> Told
+    ensures { λ r. ⌜ r ≡ partProbe p ⌝ }
 {
     match p {
-        Peer::Absent => Told {
+        Part::Absent => Told {
             there: 0,
             a: 0,
             b: 0,
         },
-        Peer::At { from } => Told {
+        Part::At { span } => Told {
             there: 1,
-            a: from as u64,
-            b: 0,
+            a: span.from as u64,
+            b: span.to as u64,
         },
     }
 }
 
-fn digest_probe(p: Digest) -> Told
-    ensures { λ r. ⌜ r ≡ digestProbe p ⌝ }
-{
-    match p {
-        Digest::Absent => Told {
-            there: 0,
-            a: 0,
-            b: 0,
-        },
-        Digest::At { from } => Told {
-            there: 1,
-            a: from as u64,
-            b: 0,
-        },
-    }
-}
-
-fn rate_probe(p: Rate) -> Told
+fn rate_probe(p: RateAt) -> Told
     ensures { λ r. ⌜ r ≡ rateProbe p ⌝ }
 {
     match p {
-        Rate::Absent => Told {
+        RateAt::Absent => Told {
             there: 0,
             a: 0,
             b: 0,
         },
-        Rate::Of { per_s, burst } => Told {
+        RateAt::Of { per_s, burst } => Told {
             there: 1,
             a: per_s,
             b: burst,
-        },
-    }
-}
-
-fn audience_probe(p: Audience) -> Told
-    ensures { λ r. ⌜ r ≡ audienceProbe p ⌝ }
-{
-    match p {
-        Audience::Absent => Told {
-            there: 0,
-            a: 0,
-            b: 0,
-        },
-        Audience::Of { from, to } => Told {
-            there: 1,
-            a: from as u64,
-            b: to as u64,
         },
     }
 }
@@ -106,33 +70,22 @@ fn request_probe(p: RequestParts) -> Listed
             kind: 2,
             numbers: [0u64; 20],
         },
-        RequestParts::Of {
-            now: t,
-            size,
-            skew,
-            amnesia,
-            peer,
-            digest,
-            rate,
-            method,
-            method_end,
-            path,
-            path_end,
-            tenant,
-            tenant_end,
-            audience,
-        } => {
-            let x = peer_probe(peer);
-            let y = digest_probe(digest);
+        RequestParts::Of { request } => {
+            let peer = request.peer;
+            let digest = request.digest;
+            let rate = request.rate;
+            let audience = request.audience;
+            let x = part_probe(peer);
+            let y = part_probe(digest);
             let z = rate_probe(rate);
-            let w = audience_probe(audience);
-            let on = bit_of(amnesia) as u64;
+            let w = part_probe(audience);
+            let on = bit_of(request.amnesia) as u64;
             Listed {
                 kind: 0,
                 numbers: [
-                    t,
-                    size,
-                    skew,
+                    request.now,
+                    request.size,
+                    request.skew,
                     on,
                     x.there,
                     x.a,
@@ -141,12 +94,12 @@ fn request_probe(p: RequestParts) -> Listed
                     z.there,
                     z.a,
                     z.b,
-                    method as u64,
-                    method_end as u64,
-                    path as u64,
-                    path_end as u64,
-                    tenant as u64,
-                    tenant_end as u64,
+                    request.method.from as u64,
+                    request.method.to as u64,
+                    request.path.from as u64,
+                    request.path.to as u64,
+                    request.tenant.from as u64,
+                    request.tenant.to as u64,
                     w.there,
                     w.a,
                     w.b,

@@ -1,14 +1,15 @@
 // House records: little-endian numbers, records with their kind, strings behind their lengths. A reader
 // takes a slice of any length and a place in it; there is one defect, that it is not there as it should be.
+use basis::Span;
 use cbor_strings::Class;
 ghost use mathlib.Core.Path.{_≡_};
 ghost use Prim.Native.Nat.{_≤_};
 ghost use lib.ListN.{length};
-ghost use Rattle.records.specs.Records.{littleOf, runAt, numberAt, textAt, recordAt};
+ghost use Rattle.records.specs.Records.{littleOf, runAt, littleAt, textAt, readRecord};
 
 // Some bytes, by where they lie.
 pub enum Run {
-    Of { from: usize, to: usize },
+    Of { span: Span },
     Bad,
 }
 
@@ -19,8 +20,13 @@ pub enum Number {
 }
 
 // A record's kind, and where its body lies.
-pub enum Record {
-    Of { kind: u64, from: usize, to: usize },
+pub struct RecordAt {
+    pub kind: u64,
+    pub body: Span,
+}
+
+pub enum RecordParts {
+    Of { record: RecordAt },
     Bad,
 }
 
@@ -48,21 +54,25 @@ pub fn run_at(s: &[u8], at: usize, n: u64) -> Run
         return Run::Bad;
     }
     Run::Of {
-        from: at,
-        to: at + n as usize,
+        span: Span {
+            from: at,
+            to: at + n as usize,
+        },
     }
 }
 
 // A number of so many bytes, at most eight.
-pub fn number_at(s: &[u8], at: usize, width: u8) -> Number
-    ensures { λ r. ⌜ r ≡ numberAt (now (s .entry)) at width ⌝ }
+pub fn little_at(s: &[u8], at: usize, width: u8) -> Number
+    ensures { λ r. ⌜ r ≡ littleAt (now (s .entry)) at width ⌝ }
 {
     if 8 < width {
         return Number::Bad;
     }
     match run_at(s, at, width as u64) {
         Run::Bad => Number::Bad,
-        Run::Of { from, to } => {
+        Run::Of { span } => {
+            let from = span.from;
+            let to = span.to;
             let n = little(&s[from..to]);
             Number::Of { n, next: to }
         }
@@ -73,7 +83,7 @@ pub fn number_at(s: &[u8], at: usize, width: u8) -> Number
 pub fn text_at(s: &[u8], at: usize, width: u8, class: Class, low: u64, high: u64) -> Run
     ensures { λ r. ⌜ r ≡ textAt (now (s .entry)) width class low high at ⌝ }
 {
-    match number_at(s, at, width) {
+    match little_at(s, at, width) {
         Number::Bad => Run::Bad,
         Number::Of { n, next } => {
             if n < low {
@@ -84,9 +94,11 @@ pub fn text_at(s: &[u8], at: usize, width: u8, class: Class, low: u64, high: u64
             }
             match run_at(s, next, n) {
                 Run::Bad => Run::Bad,
-                Run::Of { from, to } => {
-                    if cbor_strings::content(&s[from..to], class) {
-                        return Run::Of { from, to };
+                Run::Of { span } => {
+                    let from = span.from;
+                    let to = span.to;
+                    if cbor_strings::content_is(&s[from..to], class) {
+                        return Run::Of { span };
                     }
                     Run::Bad
                 }
@@ -95,16 +107,18 @@ pub fn text_at(s: &[u8], at: usize, width: u8, class: Class, low: u64, high: u64
     }
 }
 
-pub fn record_at(s: &[u8], at: usize) -> Record
-    ensures { λ r. ⌜ r ≡ recordAt (now (s .entry)) at ⌝ }
+pub fn record_at(s: &[u8], at: usize) -> RecordParts
+    ensures { λ r. ⌜ r ≡ readRecord (now (s .entry)) at ⌝ }
 {
-    match number_at(s, at, 2) {
-        Number::Bad => Record::Bad,
-        Number::Of { n, next: p } => match number_at(s, p, 2) {
-            Number::Bad => Record::Bad,
+    match little_at(s, at, 2) {
+        Number::Bad => RecordParts::Bad,
+        Number::Of { n, next: p } => match little_at(s, p, 2) {
+            Number::Bad => RecordParts::Bad,
             Number::Of { n: kind, next: q } => match run_at(s, q, n) {
-                Run::Bad => Record::Bad,
-                Run::Of { from, to } => Record::Of { kind, from, to },
+                Run::Bad => RecordParts::Bad,
+                Run::Of { span: body } => RecordParts::Of {
+                    record: RecordAt { kind, body },
+                },
             },
         },
     }

@@ -1,12 +1,16 @@
 -- Peer, digest and rate: those that are flagged and were written are found where they lie.
-use mathlib.Core.Path.{_≡_, sym, ap, _∙_}
+use mathlib.Core.Path.{_≡_, refl, sym, ap, _∙_}
 use mathlib.Core.List.{List, _++_, append-assoc}
 use mathlib.Core.Option.{Option, some, none}
 use Prim.Native.Nat.{ℕ, _+_, _/_, _%_}
 use native.Mathlib.Nat.{add-zero}
 use native.Mathlib.Omega.{arith}
 use lib.ListN.{length, length-append}
+use Rattle.basis.specs.Basis.{fromTo}
+use Rattle.basis.specs.declared.Part.{Part}
+use Rattle.basis.specs.declared.Part.the-variants.{Absent, At}
 use Rattle.basis.proofs.Parts.{lies}
+use Rattle.basis.proofs.Held.{PartHeld}
 use Rattle.cbor_strings.specs.declared.Class.the-variants.{Hex}
 use Rattle.cbor_keys.specs.Maps.{present, IfPresent, GoodText}
 use Rattle.records.specs.Records.{little, runAt}
@@ -15,44 +19,37 @@ use Rattle.records.proofs.Littles.{little-length}
 use Rattle.records.proofs.Runs.{run-written, number-written}
 use Rattle.records_request.specs.Requests.{PerSecond, partIf, bare, rateBytes, FourBytes, GoodRate}
 use Rattle.records_request.specs.Reading.{peerAt, digestThen, digestAt, perThen, rateAt, digestNext, peerNext, extrasAt}
-use Rattle.records_request.specs.declared.Peer.{Peer}
-use Rattle.records_request.specs.declared.Peer.the-variants.{Absent as NoPeer, At as PeerFrom}
-use Rattle.records_request.specs.declared.PeerStep.the-variants.{Of as PeerOf}
-use Rattle.records_request.specs.declared.Digest.{Digest}
-use Rattle.records_request.specs.declared.Digest.the-variants.{Absent as NoDigest, At as DigestFrom}
-use Rattle.records_request.specs.declared.DigestStep.the-variants.{Of as DigestOf}
-use Rattle.records_request.specs.declared.Rate.the-variants.{Absent as NoRate, Of as RateIs}
+use Rattle.records_request.specs.declared.PartStep.the-variants.{Of as PartOf}
+use Rattle.records_request.specs.declared.RateAt.the-variants.{Absent as NoRate, Of as RateIs}
 use Rattle.records_request.specs.declared.RateStep.the-variants.{Of as RateOf}
+use Rattle.records_request.specs.declared.ExtrasAt.{ExtrasAt}
 use Rattle.records_request.specs.declared.Extras.the-variants.{Of}
-use Rattle.records_request.proofs.Holds.{PeerHeld, DigestHeld, rateOf}
+use Rattle.records_request.proofs.Holds.{rateOf}
 use Rattle.records_request.proofs.FixedLaws.{Behind, behind-part, behind-number}
 
-abbrev pub peerPart : Option (List ℕ) → ℕ → Peer
-peerPart none at = NoPeer
-peerPart (some p) at = PeerFrom at
-
-abbrev pub digestPart : Option (List ℕ) → ℕ → Digest
-digestPart none at = NoDigest
-digestPart (some d) at = DigestFrom at
+-- where a part that is written as it is lies
+abbrev pub barePart : Option (List ℕ) → ℕ → Part
+barePart none at = Absent
+barePart (some x) at = At (fromTo at (at + length x))
 
 module _ (s t : List ℕ) (flags at : ℕ) where
   peer-written : (o : Option (List ℕ)) → IfPresent FourBytes o → flags / 2 % 2 ≡ present o → Behind s (partIf bare o ++ t) at
-      → (peerAt s flags at ≡ PeerOf (peerPart o at) (at + length (partIf bare o))) × PeerHeld s o (peerPart o at)
+      → (peerAt s flags at ≡ PartOf (barePart o at) (at + length (partIf bare o))) × PartHeld s o (barePart o at)
   unfolding peerAt
-  peer-written none g f w = (rw f (ap (PeerOf NoPeer) (sym (add-zero at))), tt)
+  peer-written none g f w = (rw f (ap (PartOf Absent) (sym (add-zero at))), tt)
   peer-written (some p) g f w =
-      let r : runAt s at 4 ≡ Found at (at + length p) = ap (runAt s at) (sym g) ∙ run-written s p t at (w .inside) (w .there) in
-      (rw (f, r), rw g at (lies s p t at (w .there)))
+      let r : runAt s at 4 ≡ Found (fromTo at (at + length p)) = ap (runAt s at) (sym g) ∙ run-written s p t at (w .inside) (w .there) in
+      (rw (f, r), lies s p t at (w .there))
 
   digest-written : (o : Option (List ℕ)) → IfPresent (GoodText Hex 64 64) o → flags / 8 % 2 ≡ present o → Behind s (partIf bare o ++ t) at
-      → (digestAt s flags at ≡ DigestOf (digestPart o at) (at + length (partIf bare o))) × DigestHeld s o (digestPart o at)
+      → (digestAt s flags at ≡ PartOf (barePart o at) (at + length (partIf bare o))) × PartHeld s o (barePart o at)
   unfolding digestAt digestThen
-  digest-written none g f w = (rw f (ap (DigestOf NoDigest) (sym (add-zero at))), tt)
+  digest-written none g f w = (rw f (ap (PartOf Absent) (sym (add-zero at))), tt)
   digest-written (some d) g f w =
       let n : length d ≡ 64 = omega (arith, g .enough, g .most) in
-      let r : runAt s at 64 ≡ Found at (at + length d) = ap (runAt s at) (sym n) ∙ run-written s d t at (w .inside) (w .there) in
+      let r : runAt s at 64 ≡ Found (fromTo at (at + length d)) = ap (runAt s at) (sym n) ∙ run-written s d t at (w .inside) (w .there) in
       let l = lies s d t at (w .there) in
-      (rw (f, r, l, g .content), rw n at l)
+      (rw (f, r, l, g .content), l)
 
   rate-written : (o : Option PerSecond) → IfPresent GoodRate o → flags / 16 % 2 ≡ present o → Behind s (partIf rateBytes o ++ t) at
       → rateAt s flags at ≡ RateOf (rateOf o) (at + length (partIf rateBytes o))
@@ -82,9 +79,11 @@ module _ (s t : List ℕ) (flags at : ℕ) (o d : Option (List ℕ)) (r : Option
 
   -- what was found of the three
   pub record ExtrasWritten : Type 0 where
-    pub answer : extrasAt s flags at ≡ Of (peerPart o at) (digestPart d digestPlace) (rateOf r) stringsPlace
-    pub peer-there : PeerHeld s o (peerPart o at)
-    pub digest-there : DigestHeld s d (digestPart d digestPlace)
+    pub extras : ExtrasAt
+    pub answer : extrasAt s flags at ≡ Of extras stringsPlace
+    pub peer-there : PartHeld s o (extras .peer)
+    pub digest-there : PartHeld s d (extras .digest)
+    pub rate-there : rateOf r ≡ extras .rate
     pub behind : Behind s t stringsPlace
 
   pub extras-written : IfPresent FourBytes o → IfPresent (GoodText Hex 64 64) d → IfPresent GoodRate r → flags / 2 % 2 ≡ present o → flags / 8 % 2 ≡ present d
@@ -98,4 +97,11 @@ module _ (s t : List ℕ) (flags at : ℕ) (o d : Option (List ℕ)) (r : Option
       let x = peer-written s t1 flags at o go fo w in
       let y = digest-written s t2 flags digestPlace d gd fd w1 in
       let z = rate-written s t flags ratePlace r gr fr w2 in
-      record { answer = rw (x .0, y .0, z); peer-there = x .1; digest-there = y .1; behind = behind-part s (partIf rateBytes r) t ratePlace w2 }
+      record {
+        extras = record { peer = barePart o at; digest = barePart d digestPlace; rate = rateOf r };
+        answer = rw (x .0, y .0, z);
+        peer-there = x .1;
+        digest-there = y .1;
+        rate-there = refl;
+        behind = behind-part s (partIf rateBytes r) t ratePlace w2;
+      }

@@ -1,48 +1,15 @@
 -- One request for one encoding: what the answer's parts hold settles the request, and so does its encoding.
-use mathlib.Core.Path.{_≡_, refl, sym, ap, ap₂, _∙_}
+use mathlib.Core.Path.{_≡_, refl, sym, ap, ap₂, subst, _∙_}
 use mathlib.Core.List.{List}
 use mathlib.Core.Option.{Option, some, none}
 use Prim.Native.Nat.{ℕ}
 use native.Mathlib.Omega.{arith}
 use Rattle.records_request.specs.Requests.{PerSecond, Request, encodeRequest, GoodRequest}
-use Rattle.records_request.specs.Reading.{requestOf}
-use Rattle.records_request.specs.declared.Peer.{Peer}
-use Rattle.records_request.specs.declared.Peer.the-variants.{Absent as NoPeer, At as PeerFrom}
-use Rattle.records_request.specs.declared.Digest.{Digest}
-use Rattle.records_request.specs.declared.Digest.the-variants.{Absent as NoDigest, At as DigestFrom}
-use Rattle.records_request.specs.declared.Audience.{Audience}
-use Rattle.records_request.specs.declared.Audience.the-variants.{Absent as NoAudience, Of as AudienceIs}
-use Rattle.records_request.specs.declared.RequestParts.{RequestParts}
-use Rattle.records_request.specs.declared.RequestParts.the-variants.{Of, Bad}
-use Rattle.records_request.proofs.Holds.{PeerHeld, DigestHeld, rateOf, AudienceHeld, Holds}
+use Rattle.records_request.specs.declared.RequestAt.{RequestAt}
+use Rattle.records_request.specs.declared.RequestParts.the-variants.{Of}
+use Rattle.basis.proofs.Held.{part-held-one}
+use Rattle.records_request.proofs.Holds.{rateOf, Holds}
 use Rattle.records_request.proofs.RequestWritten.{request-written}
-
-peer-one : (s : List ℕ) (o p : Option (List ℕ)) (part : Peer) → PeerHeld s o part → PeerHeld s p part → o ≡ p
-peer-one s none none part g h = refl
-peer-one s none (some y) NoPeer g h = elim h [ ]
-peer-one s none (some y) (PeerFrom from) g h = elim g [ ]
-peer-one s (some x) none NoPeer g h = elim g [ ]
-peer-one s (some x) none (PeerFrom from) g h = elim h [ ]
-peer-one s (some x) (some y) NoPeer g h = elim g [ ]
-peer-one s (some x) (some y) (PeerFrom from) g h = ap some (sym g ∙ h)
-
-digest-one : (s : List ℕ) (o p : Option (List ℕ)) (part : Digest) → DigestHeld s o part → DigestHeld s p part → o ≡ p
-digest-one s none none part g h = refl
-digest-one s none (some y) NoDigest g h = elim h [ ]
-digest-one s none (some y) (DigestFrom from) g h = elim g [ ]
-digest-one s (some x) none NoDigest g h = elim g [ ]
-digest-one s (some x) none (DigestFrom from) g h = elim h [ ]
-digest-one s (some x) (some y) NoDigest g h = elim g [ ]
-digest-one s (some x) (some y) (DigestFrom from) g h = ap some (sym g ∙ h)
-
-audience-one : (s : List ℕ) (o p : Option (List ℕ)) (part : Audience) → AudienceHeld s o part → AudienceHeld s p part → o ≡ p
-audience-one s none none part g h = refl
-audience-one s none (some y) NoAudience g h = elim h [ ]
-audience-one s none (some y) (AudienceIs from to) g h = elim g [ ]
-audience-one s (some x) none NoAudience g h = elim g [ ]
-audience-one s (some x) none (AudienceIs from to) g h = elim h [ ]
-audience-one s (some x) (some y) NoAudience g h = elim g [ ]
-audience-one s (some x) (some y) (AudienceIs from to) g h = ap some (sym g ∙ h)
 
 abbrev perSecond : ℕ → ℕ → PerSecond
 perSecond n b = record { per-s = n; burst = b }
@@ -77,16 +44,21 @@ same x y a b c d e f g h i j k = let z : request x ≡ request y = rw (a, b, c, 
     }
 
 -- the parts settle the request
-pub holds-one : (s : List ℕ) (x y : Request) (r : RequestParts) → Holds s x r → Holds s y r → x ≡ y
-holds-one s x y Bad g h = elim g [ ]
-holds-one s x y (Of n z k on part digits limit m me p pe t te aud) g h =
+pub holds-one : (s : List ℕ) (x y : Request) (r : RequestAt) → Holds s x r → Holds s y r → x ≡ y
+holds-one s x y r g h =
     same x y (g .now-held ∙ sym (h .now-held)) (g .size-held ∙ sym (h .size-held)) (g .skew-held ∙ sym (h .skew-held)) (g .amnesia-held ∙ sym (h .amnesia-held))
-    (peer-one s (x .peer) (y .peer) part (g .peer-held) (h .peer-held)) (digest-one s (x .digest) (y .digest) digits (g .digest-held) (h .digest-held))
+    (part-held-one s (x .peer) (y .peer) (r .peer) (g .peer-held) (h .peer-held))
+    (part-held-one s (x .digest) (y .digest) (r .digest) (g .digest-held) (h .digest-held))
     (rate-one (x .rate) (y .rate) (g .rate-held ∙ sym (h .rate-held)))
     (sym (g .method-held) ∙ h .method-held) (sym (g .path-held) ∙ h .path-held) (sym (g .tenant-held) ∙ h .tenant-held)
-    (audience-one s (x .audience) (y .audience) aud (g .audience-held) (h .audience-held))
+    (part-held-one s (x .audience) (y .audience) (r .audience) (g .audience-held) (h .audience-held))
 
 pub request-one : (x y : Request) → GoodRequest x → GoodRequest y → encodeRequest x ≡ encodeRequest y → x ≡ y
 request-one x y gx gy e =
     let s = encodeRequest x in
-    holds-one s x y (requestOf s) (request-written x gx s refl) (request-written y gy s e)
+    let a = request-written x gx s refl in
+    let b = request-written y gy s e in
+    holds-one s x y (b .parts) (subst (Holds s x) (same-request (sym (a .answer) ∙ b .answer)) (a .holds)) (b .holds)
+  where
+    same-request : {p q : RequestAt} → Of p ≡ Of q → p ≡ q
+    same-request e = cc

@@ -7,17 +7,17 @@ use native.Mathlib.Omega.{arith}
 use lib.Dec.{eqb}
 use Rattle.basis.specs.Basis.{IsBytes}
 use Rattle.records_request.specs.Requests.{Request, flagsOf, encodeRequest, GoodRequest}
-use Rattle.records_request.specs.Reading.{afterFixed, afterExtras, afterStrings, fixedAt, extrasAt, stringsAt, stringsThen, extrasNext, fixedThen, requestOf}
+use Rattle.records_request.specs.Reading.{afterFixed, afterExtras, afterStrings, fixedAt, extrasAt, stringsAt, allOf, stringsThen, extrasNext, fixedThen, requestOf}
+use Rattle.records_request.specs.declared.Numbers.{Numbers}
 use Rattle.records_request.specs.declared.Fixed.{Fixed}
 use Rattle.records_request.specs.declared.Fixed.the-variants.{Of as FixedOf, Bad as NoFixed}
-use Rattle.records_request.specs.declared.Peer.{Peer}
-use Rattle.records_request.specs.declared.Digest.{Digest}
-use Rattle.records_request.specs.declared.Rate.{Rate}
+use Rattle.records_request.specs.declared.ExtrasAt.{ExtrasAt}
 use Rattle.records_request.specs.declared.Extras.{Extras}
 use Rattle.records_request.specs.declared.Extras.the-variants.{Of as ExtrasOf, Bad as NoExtras}
-use Rattle.records_request.specs.declared.Audience.{Audience}
+use Rattle.records_request.specs.declared.StringsAt.{StringsAt}
 use Rattle.records_request.specs.declared.Strings.{Strings}
 use Rattle.records_request.specs.declared.Strings.the-variants.{Of as StringsOf, Bad as NoStrings}
+use Rattle.records_request.specs.declared.RequestAt.{RequestAt}
 use Rattle.records_request.specs.declared.RequestParts.{RequestParts}
 use Rattle.records_request.specs.declared.RequestParts.the-variants.{Of, Bad}
 use Rattle.records_request.proofs.Holds.{Holds}
@@ -27,21 +27,22 @@ use Rattle.records_request.proofs.ExtrasRead.{AreExtras, extras-read}
 use Rattle.records_request.proofs.StringsRead.{AreStrings, strings-read}
 
 -- a request within limits is all there is, and the answer's parts hold what is its
-pub record IsRequest (s : List ℕ) (r : RequestParts) : Type 0 where
+pub record IsRequest (s : List ℕ) (parts : RequestAt) : Type 0 where
   pub tree : Request
   pub good : GoodRequest tree
   pub there : s ≡ encodeRequest tree
-  pub holds : Holds s tree r
+  pub holds : Holds s tree parts
 
-module _ (s : List ℕ) (b : IsBytes s) (r : RequestParts) (never : Bad ≡ r → ⊥) where
-  found : (n z k f i j : ℕ) (o : Peer) (d : Digest) (l : Rate) (m me p pe t te : ℕ) (a : Audience) → IsFixed s n z k f i → AreExtras s f i o d l j
-      → AreStrings s f j m me p pe t te a → IsRequest s (Of n z k (eqb (f % 2) 1) o d l m me p pe t te a)
+module _ (s : List ℕ) (b : IsBytes s) where
+  found : (n : Numbers) (i : ℕ) (extras : ExtrasAt) (j : ℕ) (strings : StringsAt) → IsFixed s n i → AreExtras s (n .flags) i extras j
+      → AreStrings s (n .flags) j strings → IsRequest s (allOf n extras strings)
   unfolding encodeRequest
-  found n z k f i j o d l m me p pe t te a w x y =
+  found n i extras j strings w x y =
+      let f = n .flags in
       let tree : Request = record {
-        now = n;
-        size = z;
-        skew = k;
+        now = n .now;
+        size = n .size;
+        skew = n .skew;
         amnesia = eqb (f % 2) 1;
         peer = x .peer;
         digest = x .digest;
@@ -89,27 +90,28 @@ module _ (s : List ℕ) (b : IsBytes s) (r : RequestParts) (never : Bad ≡ r �
         };
       }
 
-  from-strings : (n z k f i j : ℕ) (o : Peer) (d : Digest) (l : Rate) → IsFixed s n z k f i → AreExtras s f i o d l j → (q : Strings) → stringsAt s f j ≡ q
-      → afterStrings Bad (stringsThen n z k f o d l) q ≡ r → IsRequest s r
-  from-strings n z k f i j o d l w x NoStrings q e = let z = never e in elim z [ ]
-  from-strings n z k f i j o d l w x (StringsOf m me p pe t te a) q e =
-      subst (IsRequest s) e (found n z k f i j o d l m me p pe t te a w x (strings-read s b f j q))
-
-  from-extras : (n z k f i : ℕ) → IsFixed s n z k f i → (x : Extras) → extrasAt s f i ≡ x → afterExtras Bad (extrasNext s n z k f) x ≡ r → IsRequest s r
-  unfolding extrasNext
-  from-extras n z k f i w NoExtras q e = let z = never e in elim z [ ]
-  from-extras n z k f i w (ExtrasOf o d l j) q e = from-strings n z k f i j o d l w (extras-read s b f i q) (stringsAt s f j) refl e
-
-  from-fixed : (x : Fixed) → fixedAt s ≡ x → afterFixed Bad (fixedThen s) x ≡ r → IsRequest s r
-  unfolding fixedThen
-  from-fixed NoFixed q e = let z = never e in elim z [ ]
-  from-fixed (FixedOf n z k f i) q e = from-extras n z k f i (fixed-read s b q) (extrasAt s f i) refl e
-
-pub request-read : (s : List ℕ) → IsBytes s → {now size skew : ℕ} {amnesia : Bool} {peer : Peer} {digest : Digest} {rate : Rate} {m me p pe t te : ℕ} {audience : Audience}
-    → requestOf s ≡ Of now size skew amnesia peer digest rate m me p pe t te audience → IsRequest s (Of now size skew amnesia peer digest rate m me p pe t te audience)
-unfolding requestOf
-request-read s b {now} {size} {skew} {amnesia} {peer} {digest} {rate} {m} {me} {p} {pe} {t} {te} {audience} e =
-    from-fixed s b (Of now size skew amnesia peer digest rate m me p pe t te audience) never (fixedAt s) refl e
-  where
-    never : Bad ≡ Of now size skew amnesia peer digest rate m me p pe t te audience → ⊥
+  module _ {parts : RequestAt} where
+    never : Bad ≡ Of parts → ⊥
     never e = let z : _≡_ {A = ℕ} 0 1 = cc in omega arith
+
+    same-request : {x : RequestAt} → Of x ≡ Of parts → x ≡ parts
+    same-request e = cc
+
+    from-strings : (n : Numbers) (i : ℕ) (x : ExtrasAt) (j : ℕ) → IsFixed s n i → AreExtras s (n .flags) i x j → (q : Strings) → stringsAt s (n .flags) j ≡ q
+        → afterStrings Bad (stringsThen n x) q ≡ Of parts → IsRequest s parts
+    from-strings n i x j w v NoStrings q e = let z = never e in elim z [ ]
+    from-strings n i x j w v (StringsOf strings) q e = subst (IsRequest s) (same-request e) (found n i x j strings w v (strings-read s b (n .flags) j q))
+
+    from-extras : (n : Numbers) (i : ℕ) → IsFixed s n i → (x : Extras) → extrasAt s (n .flags) i ≡ x → afterExtras Bad (extrasNext s n) x ≡ Of parts → IsRequest s parts
+    unfolding extrasNext
+    from-extras n i w NoExtras q e = let z = never e in elim z [ ]
+    from-extras n i w (ExtrasOf x j) q e = from-strings n i x j w (extras-read s b (n .flags) i q) (stringsAt s (n .flags) j) refl e
+
+    from-fixed : (x : Fixed) → fixedAt s ≡ x → afterFixed Bad (fixedThen s) x ≡ Of parts → IsRequest s parts
+    unfolding fixedThen
+    from-fixed NoFixed q e = let z = never e in elim z [ ]
+    from-fixed (FixedOf n i) q e = from-extras n i (fixed-read s b q) (extrasAt s (n .flags) i) refl e
+
+pub request-read : (s : List ℕ) → IsBytes s → {parts : RequestAt} → requestOf s ≡ Of parts → IsRequest s parts
+unfolding requestOf
+request-read s b e = from-fixed s b (fixedAt s) refl e

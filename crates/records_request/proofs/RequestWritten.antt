@@ -5,14 +5,22 @@ use Prim.Native.Nat.{ℕ, _%_}
 use native.Mathlib.Omega.{arith}
 use Rattle.records.specs.Records.{counted}
 use Rattle.records_request.specs.Requests.{Request, partIf, bare, rateBytes, flagsOf, encodeRequest, GoodRequest}
-use Rattle.records_request.specs.Reading.{extrasNext, fixedThen, requestOf}
+use Rattle.records_request.specs.Reading.{numbersOf, allOf, extrasNext, fixedThen, requestOf}
+use Rattle.records_request.specs.declared.RequestAt.{RequestAt}
+use Rattle.records_request.specs.declared.RequestParts.the-variants.{Of}
 use Rattle.records_request.proofs.Holds.{Holds}
 use Rattle.records_request.proofs.Flags.{flags-written, amnesia-is}
 use Rattle.records_request.proofs.FixedLaws.{Behind, fixed-written}
 use Rattle.records_request.proofs.ExtrasWritten.{stringsPlace, extras-written}
 use Rattle.records_request.proofs.StringsWritten.{strings-written}
 
-pub request-written : (x : Request) → GoodRequest x → (s : List ℕ) → s ≡ encodeRequest x → Holds s x (requestOf s)
+-- what a reading finds of a request
+pub record Written (s : List ℕ) (x : Request) : Type 0 where
+  pub parts : RequestAt
+  pub answer : requestOf s ≡ Of parts
+  pub holds : Holds s x parts
+
+pub request-written : (x : Request) → GoodRequest x → (s : List ℕ) → s ≡ encodeRequest x → Written s x
 unfolding encodeRequest requestOf fixedThen extrasNext
 request-written x g s e =
     let v = flags-written x in
@@ -25,16 +33,20 @@ request-written x g s e =
     let p = stringsPlace s strings (flagsOf x) 19 (x .peer) (x .digest) (x .rate) in
     let c =
     strings-written s (flagsOf x) p (x .method) (x .path) (x .tenant) (x .audience) (g .good-method) (g .good-path) (g .good-tenant) (g .good-audience) (v .audience-bit) (b .behind) in
-    rw (a .0, b .answer, c .answer) (record {
-      now-held = refl;
-      size-held = refl;
-      skew-held = refl;
-      amnesia-held = amnesia-is (x .amnesia) (flagsOf x % 2) (v .amnesia-bit);
-      peer-held = b .peer-there;
-      digest-held = b .digest-there;
-      rate-held = refl;
-      method-held = c .method-there;
-      path-held = c .path-there;
-      tenant-held = c .tenant-there;
-      audience-held = c .audience-there;
-    })
+    record {
+      parts = allOf (numbersOf (x .now) (x .size) (x .skew) (flagsOf x)) (b .extras) (c .strings);
+      answer = rw (a .0, b .answer, c .answer);
+      holds = record {
+        now-held = refl;
+        size-held = refl;
+        skew-held = refl;
+        amnesia-held = amnesia-is (x .amnesia) (flagsOf x % 2) (v .amnesia-bit);
+        peer-held = b .peer-there;
+        digest-held = b .digest-there;
+        rate-held = b .rate-there;
+        method-held = c .method-there;
+        path-held = c .path-there;
+        tenant-held = c .tenant-there;
+        audience-held = c .audience-there;
+      };
+    }

@@ -1,5 +1,5 @@
 -- Method, path, tenant and an audience that is flagged: those that were read stood there as they are written, and nothing behind them.
-use mathlib.Core.Path.{_≡_, refl, sym, ap, ap₂, subst, _∙_}
+use mathlib.Core.Path.{_≡_, refl, subst, _∙_}
 use mathlib.Core.Bool.{Bool, true, false}
 use mathlib.Core.List.{List, [], _++_, append-nil}
 use mathlib.Core.Option.{Option, some, none}
@@ -9,59 +9,42 @@ use borrow.Author.Tests.{eqb-true, ltb-false}
 use lib.Dec.{eqb, ltb}
 use lib.ListN.{length, drop, drop-of-length-le}
 use Rattle.basis.specs.Basis.{pick, between, IsBytes}
+use Rattle.basis.specs.declared.Span.{Span}
+use Rattle.basis.specs.declared.Part.{Part}
+use Rattle.basis.specs.declared.Part.the-variants.{Absent, At}
 use Rattle.basis.proofs.Parts.{on}
+use Rattle.basis.proofs.Held.{PartHeld}
 use Rattle.cbor_strings.specs.declared.Class.the-variants.{Upper, Path, Name, Printable}
 use Rattle.cbor_keys.specs.Maps.{present, IfPresent, GoodText}
 use Rattle.cbor_keys.proofs.StepLaws.{must-pass}
 use Rattle.records.specs.Records.{counted, textAt, afterRun}
 use Rattle.records.proofs.Fields.{run-went, IsText, text-read}
 use Rattle.records_request.specs.Requests.{partIf}
-use Rattle.records_request.specs.Reading.{afterAudience, audienceThen, audienceAt, endThen, tenantThen, pathThen, methodThen, stringsAt}
-use Rattle.records_request.specs.declared.Audience.{Audience}
-use Rattle.records_request.specs.declared.Audience.the-variants.{Absent as NoAudience, Of as AudienceIs}
-use Rattle.records_request.specs.declared.AudienceStep.{AudienceStep}
-use Rattle.records_request.specs.declared.AudienceStep.the-variants.{Of as AudienceOf, Bad as BadAudience}
-use Rattle.records_request.specs.declared.Strings.{Strings}
+use Rattle.records_request.specs.Reading.{afterPart, foundPart, audienceAt, stringsOf, endThen, tenantThen, pathThen, methodThen, stringsAt}
+use Rattle.records_request.specs.declared.PartStep.{PartStep}
+use Rattle.records_request.specs.declared.PartStep.the-variants.{Of as PartOf, Bad as BadPart}
+use Rattle.records_request.specs.declared.StringsAt.{StringsAt}
 use Rattle.records_request.specs.declared.Strings.the-variants.{Of, Bad}
-use Rattle.records_request.proofs.Holds.{AudienceHeld}
 use Rattle.records_request.proofs.Flags.{flag-set}
+use Rattle.records_request.proofs.ExtrasRead.{IsPart, not-there, is-there, bad-part}
 
-record IsAudience (s : List ℕ) (flags at : ℕ) (part : Audience) (next : ℕ) : Type 0 where
-  pub tree : Option (List ℕ)
-  pub good : IfPresent (GoodText Printable 1 128) tree
-  pub flagged : flags / 4 % 2 ≡ present tree
-  pub held : AudienceHeld s tree part
-  pub there : drop at s ≡ partIf (counted 2) tree ++ drop next s
+abbrev IsAudience : (s : List ℕ) (flags at : ℕ) (part : Part) (next : ℕ) → Type 0
+IsAudience s flags at part next = IsPart (GoodText Printable 1 128) (counted 2) (flags / 4 % 2) s at part next
 
-audience-read : (s : List ℕ) → IsBytes s → (flags at : ℕ) {part : Audience} {next : ℕ} → audienceAt s flags at ≡ AudienceOf part next → IsAudience s flags at part next
+audience-read : (s : List ℕ) → IsBytes s → (flags at : ℕ) {part : Part} {next : ℕ} → audienceAt s flags at ≡ PartOf part next → IsAudience s flags at part next
 unfolding audienceAt
 audience-read s b flags at {part} {next} = by (eqb (flags / 4 % 2) 0) refl
   where
-    never : BadAudience ≡ AudienceOf part next → ⊥
-    never e = let z : _≡_ {A = ℕ} 0 1 = cc in omega arith
-
-    by : (t : Bool) → eqb (flags / 4 % 2) 0 ≡ t → pick t (AudienceOf NoAudience at) (afterRun BadAudience audienceThen (textAt s 2 Printable 1 128 at)) ≡ AudienceOf part next
+    by : (t : Bool) → eqb (flags / 4 % 2) 0 ≡ t → pick t (PartOf Absent at) (afterRun BadPart foundPart (textAt s 2 Printable 1 128 at)) ≡ PartOf part next
         → IsAudience s flags at part next
-    by true q e =
-        let pe : NoAudience ≡ part = cc in
-        let ne : at ≡ next = cc in
-        record { tree = none; good = tt; flagged = eqb-true (flags / 4 % 2) 0 q; held = subst (AudienceHeld s none) pe tt; there = ap (λ (i : ℕ). drop i s) ne }
+    by true q e = not-there (GoodText Printable 1 128) (counted 2) (flags / 4 % 2) s at (eqb-true (flags / 4 % 2) 0 q) e
     by false q e =
-        let w = run-went never audienceThen (textAt s 2 Printable 1 128 at) e in
+        let w = run-went (bad-part part next) foundPart (textAt s 2 Printable 1 128 at) e in
         let x = text-read 2 Printable 1 128 s b at (w .was) in
-        let g = w .goes in
-        let pe : AudienceIs (w .from) (w .to) ≡ part = cc in
-        let ne : w .to ≡ next = cc in
-        record {
-          tree = some (x .tree);
-          good = x .good;
-          flagged = flag-set (flags / 4) q;
-          held = subst (AudienceHeld s (some (x .tree))) pe (x .held);
-          there = on (counted 2 (x .tree)) (x .there) (ap (λ (i : ℕ). drop i s) ne);
-        }
+        is-there (GoodText Printable 1 128) (counted 2) (flags / 4 % 2) s at (flag-set (flags / 4) q) (x .tree) (x .good) (w .part) (x .held) (x .there) (w .goes)
 
 -- the four that were read
-pub record AreStrings (s : List ℕ) (flags at m me p pe t te : ℕ) (part : Audience) : Type 0 where
+pub record AreStrings (s : List ℕ) (flags at : ℕ) (strings : StringsAt) : Type 0 where
   pub method : List ℕ
   pub path : List ℕ
   pub tenant : List ℕ
@@ -71,26 +54,16 @@ pub record AreStrings (s : List ℕ) (flags at m me p pe t te : ℕ) (part : Aud
   pub good-tenant : GoodText Name 1 64 tenant
   pub good-audience : IfPresent (GoodText Printable 1 128) audience
   pub audience-bit : flags / 4 % 2 ≡ present audience
-  pub method-held : between s m me ≡ method
-  pub path-held : between s p pe ≡ path
-  pub tenant-held : between s t te ≡ tenant
-  pub audience-held : AudienceHeld s audience part
+  pub method-held : between s (strings .method) ≡ method
+  pub path-held : between s (strings .path) ≡ path
+  pub tenant-held : between s (strings .tenant) ≡ tenant
+  pub audience-held : PartHeld s audience (strings .audience)
   pub there : drop at s ≡ counted 2 method ++ (counted 2 path ++ (counted 2 tenant ++ partIf (counted 2) audience))
 
-module _ (s : List ℕ) (b : IsBytes s) (flags at : ℕ) {m me p pe t te : ℕ} {part : Audience} where
-  never : Bad ≡ Of m me p pe t te part → ⊥
-  never e = let z : _≡_ {A = ℕ} 0 1 = cc in omega arith
-
-  found : (f fe g ge h he : ℕ) (a : Audience) (next : ℕ) → IsText 2 Upper 1 16 s at f fe → IsText 2 Path 1 1024 s fe g ge → IsText 2 Name 1 64 s ge h he
-      → IsAudience s flags he a next → drop next s ≡ [] → _≡_ {A = Strings} (Of f fe g ge h he a) (Of m me p pe t te part) → AreStrings s flags at m me p pe t te part
-  found f fe g ge h he a next w x y z d e =
-      let e1 : f ≡ m = cc in
-      let e2 : fe ≡ me = cc in
-      let e3 : g ≡ p = cc in
-      let e4 : ge ≡ pe = cc in
-      let e5 : h ≡ t = cc in
-      let e6 : he ≡ te = cc in
-      let e7 : a ≡ part = cc in
+module _ (s : List ℕ) (b : IsBytes s) (flags at : ℕ) where
+  found : (m p n : Span) (a : Part) (next : ℕ) → IsText 2 Upper 1 16 s at m → IsText 2 Path 1 1024 s (m .to) p → IsText 2 Name 1 64 s (p .to) n
+      → IsAudience s flags (n .to) a next → drop next s ≡ [] → AreStrings s flags at (stringsOf m p n a)
+  found m p n a next w x y z d =
       record {
         method = w .tree;
         path = x .tree;
@@ -101,10 +74,10 @@ module _ (s : List ℕ) (b : IsBytes s) (flags at : ℕ) {m me p pe t te : ℕ} 
         good-tenant = y .good;
         good-audience = z .good;
         audience-bit = z .flagged;
-        method-held = sym (ap₂ (between s) e1 e2) ∙ w .held;
-        path-held = sym (ap₂ (between s) e3 e4) ∙ x .held;
-        tenant-held = sym (ap₂ (between s) e5 e6) ∙ y .held;
-        audience-held = subst (AudienceHeld s (z .tree)) e7 (z .held);
+        method-held = w .held;
+        path-held = x .held;
+        tenant-held = y .held;
+        audience-held = z .held;
         there =
             on (counted 2 (w .tree)) (w .there) (
             on (counted 2 (x .tree)) (x .there) (
@@ -112,20 +85,28 @@ module _ (s : List ℕ) (b : IsBytes s) (flags at : ℕ) {m me p pe t te : ℕ} 
             on (partIf (counted 2) (z .tree)) (z .there) d ∙ append-nil (partIf (counted 2) (z .tree)))));
       }
 
-  from-audience : (f fe g ge h he : ℕ) → IsText 2 Upper 1 16 s at f fe → IsText 2 Path 1 1024 s fe g ge → IsText 2 Name 1 64 s ge h he
-      → (a : AudienceStep) → audienceAt s flags he ≡ a → afterAudience Bad (endThen s f fe g ge h he) a ≡ Of m me p pe t te part → AreStrings s flags at m me p pe t te part
-  unfolding endThen
-  from-audience f fe g ge h he w x y BadAudience q e = let z = never e in elim z [ ]
-  from-audience f fe g ge h he w x y (AudienceOf a next) q e =
-      let l = must-pass Bad (Of f fe g ge h he a) never (ltb next (length s)) e in
-      found f fe g ge h he a next w x y (audience-read s b flags he q) (drop-of-length-le s (ltb-false next (length s) (l .0))) (l .1)
+  module _ {strings : StringsAt} where
+    never : Bad ≡ Of strings → ⊥
+    never e = let z : _≡_ {A = ℕ} 0 1 = cc in omega arith
 
-  pub strings-read : stringsAt s flags at ≡ Of m me p pe t te part → AreStrings s flags at m me p pe t te part
-  unfolding stringsAt methodThen pathThen tenantThen
-  strings-read e =
-      let w = run-went never (methodThen s flags) (textAt s 2 Upper 1 16 at) e in
-      let x = run-went never (pathThen s flags (w .from) (w .to)) (textAt s 2 Path 1 1024 (w .to)) (w .goes) in
-      let y = run-went never (tenantThen s flags (w .from) (w .to) (x .from) (x .to)) (textAt s 2 Name 1 64 (x .to)) (x .goes) in
-      from-audience (w .from) (w .to) (x .from) (x .to) (y .from) (y .to)
-      (text-read 2 Upper 1 16 s b at (w .was)) (text-read 2 Path 1 1024 s b (w .to) (x .was)) (text-read 2 Name 1 64 s b (x .to) (y .was))
-      (audienceAt s flags (y .to)) refl (y .goes)
+    same-strings : {x : StringsAt} → Of x ≡ Of strings → x ≡ strings
+    same-strings e = cc
+
+    from-audience : (m p n : Span) → IsText 2 Upper 1 16 s at m → IsText 2 Path 1 1024 s (m .to) p → IsText 2 Name 1 64 s (p .to) n
+        → (a : PartStep) → audienceAt s flags (n .to) ≡ a → afterPart Bad (endThen s m p n) a ≡ Of strings → AreStrings s flags at strings
+    unfolding endThen
+    from-audience m p n w x y BadPart q e = let z = never e in elim z [ ]
+    from-audience m p n w x y (PartOf a next) q e =
+        let l = must-pass Bad (Of (stringsOf m p n a)) never (ltb next (length s)) e in
+        subst (AreStrings s flags at) (same-strings (l .1))
+        (found m p n a next w x y (audience-read s b flags (n .to) q) (drop-of-length-le s (ltb-false next (length s) (l .0))))
+
+    pub strings-read : stringsAt s flags at ≡ Of strings → AreStrings s flags at strings
+    unfolding stringsAt methodThen pathThen tenantThen
+    strings-read e =
+        let w = run-went never (methodThen s flags) (textAt s 2 Upper 1 16 at) e in
+        let x = run-went never (pathThen s flags (w .part)) (textAt s 2 Path 1 1024 (w .part .to)) (w .goes) in
+        let y = run-went never (tenantThen s flags (w .part) (x .part)) (textAt s 2 Name 1 64 (x .part .to)) (x .goes) in
+        from-audience (w .part) (x .part) (y .part)
+        (text-read 2 Upper 1 16 s b at (w .was)) (text-read 2 Path 1 1024 s b (w .part .to) (x .was)) (text-read 2 Name 1 64 s b (x .part .to) (y .was))
+        (audienceAt s flags (y .part .to)) refl (y .goes)

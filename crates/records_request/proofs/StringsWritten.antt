@@ -7,33 +7,34 @@ use native.Mathlib.Nat.{add-zero}
 use native.Mathlib.Omega.{arith}
 use borrow.Author.Tests.{le-ltb}
 use lib.ListN.{length, length-append, length-drop}
-use Rattle.basis.specs.Basis.{between}
+use Rattle.basis.specs.Basis.{fromTo, between}
+use Rattle.basis.specs.declared.Part.{Part}
+use Rattle.basis.specs.declared.Part.the-variants.{Absent, At}
 use Rattle.cbor_strings.specs.declared.Class.the-variants.{Upper, Path, Name, Printable}
 use Rattle.cbor_keys.specs.Maps.{present, IfPresent, GoodText}
 use Rattle.records.specs.Records.{little, counted}
 use Rattle.records.proofs.Littles.{little-length}
 use Rattle.records.proofs.Fields.{text-written}
 use Rattle.records_request.specs.Requests.{partIf}
-use Rattle.records_request.specs.Reading.{audienceAt, endThen, tenantThen, pathThen, methodThen, stringsAt}
-use Rattle.records_request.specs.declared.Audience.{Audience}
-use Rattle.records_request.specs.declared.Audience.the-variants.{Absent as NoAudience, Of as AudienceIs}
-use Rattle.records_request.specs.declared.AudienceStep.the-variants.{Of as AudienceOf}
+use Rattle.records_request.specs.Reading.{audienceAt, stringsOf, endThen, tenantThen, pathThen, methodThen, stringsAt}
+use Rattle.records_request.specs.declared.PartStep.the-variants.{Of as PartOf}
+use Rattle.records_request.specs.declared.StringsAt.{StringsAt}
 use Rattle.records_request.specs.declared.Strings.the-variants.{Of}
-use Rattle.records_request.proofs.Holds.{AudienceHeld}
+use Rattle.basis.proofs.Held.{PartHeld}
 use Rattle.records_request.proofs.FixedLaws.{Behind, behind-text}
 
-abbrev pub audiencePart : Option (List ℕ) → ℕ → Audience
-audiencePart none at = NoAudience
-audiencePart (some a) at = AudienceIs (at + 2) (at + 2 + length a)
+abbrev pub audiencePart : Option (List ℕ) → ℕ → Part
+audiencePart none at = Absent
+audiencePart (some a) at = At (fromTo (at + 2) (at + 2 + length a))
 
 module _ (s t : List ℕ) (flags at : ℕ) where
   audience-written : (o : Option (List ℕ)) → IfPresent (GoodText Printable 1 128) o → flags / 4 % 2 ≡ present o → Behind s (partIf (counted 2) o ++ t) at
-      → (audienceAt s flags at ≡ AudienceOf (audiencePart o at) (at + length (partIf (counted 2) o))) × AudienceHeld s o (audiencePart o at)
+      → (audienceAt s flags at ≡ PartOf (audiencePart o at) (at + length (partIf (counted 2) o))) × PartHeld s o (audiencePart o at)
   unfolding audienceAt counted
-  audience-written none g f w = (rw f (ap (AudienceOf NoAudience) (sym (add-zero at))), tt)
+  audience-written none g f w = (rw f (ap (PartOf Absent) (sym (add-zero at))), tt)
   audience-written (some a) g f w =
       let l : at + 2 + length a ≡ at + length (counted 2 a) = omega (arith, length-append (little 2 (length a)) a, little-length 2 (length a)) in (
-        rw (f, text-written 2 Printable 1 128 a (omega arith) (omega arith) g s t at (w .inside) (w .there)) (ap (AudienceOf (AudienceIs (at + 2) (at + 2 + length a))) l),
+        rw (f, text-written 2 Printable 1 128 a (omega arith) (omega arith) g s t at (w .inside) (w .there)) (ap (PartOf (At (fromTo (at + 2) (at + 2 + length a)))) l),
         behind-text s a t at w .1,
       )
 
@@ -49,11 +50,12 @@ module _ (s : List ℕ) (flags at : ℕ) (m p n : List ℕ) (o : Option (List �
 
   -- what was found of the four
   pub record StringsWritten : Type 0 where
-    pub answer : stringsAt s flags at ≡ Of (at + 2) pathPlace (pathPlace + 2) tenantPlace (tenantPlace + 2) audiencePlace (audiencePart o audiencePlace)
-    pub method-there : between s (at + 2) pathPlace ≡ m
-    pub path-there : between s (pathPlace + 2) tenantPlace ≡ p
-    pub tenant-there : between s (tenantPlace + 2) audiencePlace ≡ n
-    pub audience-there : AudienceHeld s o (audiencePart o audiencePlace)
+    pub strings : StringsAt
+    pub answer : stringsAt s flags at ≡ Of strings
+    pub method-there : between s (strings .method) ≡ m
+    pub path-there : between s (strings .path) ≡ p
+    pub tenant-there : between s (strings .tenant) ≡ n
+    pub audience-there : PartHeld s o (strings .audience)
 
   pub strings-written : GoodText Upper 1 16 m → GoodText Path 1 1024 p → GoodText Name 1 64 n → IfPresent (GoodText Printable 1 128) o → flags / 4 % 2 ≡ present o
       → Behind s (counted 2 m ++ (counted 2 p ++ (counted 2 n ++ partIf (counted 2) o))) at → StringsWritten
@@ -69,6 +71,8 @@ module _ (s : List ℕ) (flags at : ℕ) (m p n : List ℕ) (o : Option (List �
       let a = audience-written s [] flags audiencePlace o go f w4 in
       let l : length s - audiencePlace ≡ length t3 = sym (length-drop audiencePlace s) ∙ ap length (w3 .0 .there) in
       record {
+        strings =
+            stringsOf (fromTo (at + 2) pathPlace) (fromTo (pathPlace + 2) tenantPlace) (fromTo (tenantPlace + 2) audiencePlace) (audiencePart o audiencePlace);
         answer = rw (
           text-written 2 Upper 1 16 m (omega arith) (omega arith) gm s t1 at (w .inside) (w .there),
           text-written 2 Path 1 1024 p (omega arith) (omega arith) gp s t2 pathPlace (w1 .0 .inside) (w1 .0 .there),

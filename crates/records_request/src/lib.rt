@@ -1,118 +1,94 @@
 // Request bodies. The reader takes a slice of any length; there is one defect, for ctx.bad has no place.
+use basis::Part;
+use basis::Span;
 use cbor_strings::Class;
 use records::Number;
 use records::Run;
 ghost use mathlib.Core.Path.{_≡_};
-ghost use Rattle.records_request.specs.Reading.{fixedAt, peerAt, digestAt, rateAt, extrasAt, audienceAt, stringsAt, fixedThen, requestOf};
+ghost use Rattle.records_request.specs.Reading.{fixedAt, peerAt, digestAt, rateAt, extrasAt, audienceAt, stringsAt, allOf, fixedThen, requestOf};
 
 // What stands in every body before the parts that the flags tell of.
+pub struct Numbers {
+    pub now: u64,
+    pub size: u64,
+    pub skew: u64,
+    pub flags: u64,
+}
+
 pub enum Fixed {
-    Of {
-        now: u64,
-        size: u64,
-        skew: u64,
-        flags: u64,
-        next: usize,
-    },
+    Of { numbers: Numbers, next: usize },
     Bad,
 }
 
-// Where the four address bytes begin.
-pub enum Peer {
-    Absent,
-    At { from: usize },
-}
-
-pub enum PeerStep {
-    Of { peer: Peer, next: usize },
+// A part that stands there if it is flagged, and where the next one begins.
+pub enum PartStep {
+    Of { part: Part, next: usize },
     Bad,
 }
 
-// Where the 64 digits begin.
-pub enum Digest {
-    Absent,
-    At { from: usize },
-}
-
-pub enum DigestStep {
-    Of { digest: Digest, next: usize },
-    Bad,
-}
-
-pub enum Rate {
+pub enum RateAt {
     Absent,
     Of { per_s: u64, burst: u64 },
 }
 
 pub enum RateStep {
-    Of { rate: Rate, next: usize },
+    Of { rate: RateAt, next: usize },
     Bad,
+}
+
+pub struct ExtrasAt {
+    pub peer: Part,
+    pub digest: Part,
+    pub rate: RateAt,
 }
 
 pub enum Extras {
-    Of {
-        peer: Peer,
-        digest: Digest,
-        rate: Rate,
-        next: usize,
-    },
+    Of { extras: ExtrasAt, next: usize },
     Bad,
 }
 
-pub enum Audience {
-    Absent,
-    Of { from: usize, to: usize },
-}
-
-pub enum AudienceStep {
-    Of { audience: Audience, next: usize },
-    Bad,
+pub struct StringsAt {
+    pub method: Span,
+    pub path: Span,
+    pub tenant: Span,
+    pub audience: Part,
 }
 
 pub enum Strings {
-    Of {
-        method: usize,
-        method_end: usize,
-        path: usize,
-        path_end: usize,
-        tenant: usize,
-        tenant_end: usize,
-        audience: Audience,
-    },
+    Of { strings: StringsAt },
     Bad,
 }
 
-// What a request holds: its numbers, and where its strings lie.
+// What a request holds: its numbers, and where its strings lie in its body.
+pub struct RequestAt {
+    pub now: u64,
+    pub size: u64,
+    pub skew: u64,
+    pub amnesia: bool,
+    pub peer: Part,
+    pub digest: Part,
+    pub rate: RateAt,
+    pub method: Span,
+    pub path: Span,
+    pub tenant: Span,
+    pub audience: Part,
+}
+
 pub enum RequestParts {
-    Of {
-        now: u64,
-        size: u64,
-        skew: u64,
-        amnesia: bool,
-        peer: Peer,
-        digest: Digest,
-        rate: Rate,
-        method: usize,
-        method_end: usize,
-        path: usize,
-        path_end: usize,
-        tenant: usize,
-        tenant_end: usize,
-        audience: Audience,
-    },
+    Of { request: RequestAt },
     Bad,
 }
 
 fn fixed_at(s: &[u8]) -> Fixed
     ensures { λ r. ⌜ r ≡ fixedAt (now (s .entry)) ⌝ }
 {
-    match records::number_at(s, 0, 8) {
+    match records::little_at(s, 0, 8) {
         Number::Bad => Fixed::Bad,
-        Number::Of { n: now, next: p } => match records::number_at(s, p, 8) {
+        Number::Of { n: now, next: p } => match records::little_at(s, p, 8) {
             Number::Bad => Fixed::Bad,
-            Number::Of { n: size, next: q } => match records::number_at(s, q, 2) {
+            Number::Of { n: size, next: q } => match records::little_at(s, q, 2) {
                 Number::Bad => Fixed::Bad,
-                Number::Of { n: skew, next: r } => match records::number_at(s, r, 1) {
+                Number::Of { n: skew, next: r } => match records::little_at(s, r, 1) {
                     Number::Bad => Fixed::Bad,
                     Number::Of { n: flags, next } => {
                         if 300 < skew {
@@ -122,10 +98,12 @@ fn fixed_at(s: &[u8]) -> Fixed
                             return Fixed::Bad;
                         }
                         Fixed::Of {
-                            now,
-                            size,
-                            skew,
-                            flags,
+                            numbers: Numbers {
+                                now,
+                                size,
+                                skew,
+                                flags,
+                            },
                             next,
                         }
                     }
@@ -135,43 +113,45 @@ fn fixed_at(s: &[u8]) -> Fixed
     }
 }
 
-fn peer_at(s: &[u8], flags: u64, at: usize) -> PeerStep
+fn peer_at(s: &[u8], flags: u64, at: usize) -> PartStep
     ensures { λ r. ⌜ r ≡ peerAt (now (s .entry)) flags at ⌝ }
 {
     if flags / 2 % 2 == 0 {
-        return PeerStep::Of {
-            peer: Peer::Absent,
+        return PartStep::Of {
+            part: Part::Absent,
             next: at,
         };
     }
     match records::run_at(s, at, 4) {
-        Run::Bad => PeerStep::Bad,
-        Run::Of { from, to } => PeerStep::Of {
-            peer: Peer::At { from },
-            next: to,
+        Run::Bad => PartStep::Bad,
+        Run::Of { span } => PartStep::Of {
+            part: Part::At { span },
+            next: span.to,
         },
     }
 }
 
-fn digest_at(s: &[u8], flags: u64, at: usize) -> DigestStep
+fn digest_at(s: &[u8], flags: u64, at: usize) -> PartStep
     ensures { λ r. ⌜ r ≡ digestAt (now (s .entry)) flags at ⌝ }
 {
     if flags / 8 % 2 == 0 {
-        return DigestStep::Of {
-            digest: Digest::Absent,
+        return PartStep::Of {
+            part: Part::Absent,
             next: at,
         };
     }
     match records::run_at(s, at, 64) {
-        Run::Bad => DigestStep::Bad,
-        Run::Of { from, to } => {
-            if cbor_strings::content(&s[from..to], Class::Hex) {
-                return DigestStep::Of {
-                    digest: Digest::At { from },
+        Run::Bad => PartStep::Bad,
+        Run::Of { span } => {
+            let from = span.from;
+            let to = span.to;
+            if cbor_strings::content_is(&s[from..to], Class::Hex) {
+                return PartStep::Of {
+                    part: Part::At { span },
                     next: to,
                 };
             }
-            DigestStep::Bad
+            PartStep::Bad
         }
     }
 }
@@ -181,16 +161,16 @@ fn rate_at(s: &[u8], flags: u64, at: usize) -> RateStep
 {
     if flags / 16 % 2 == 0 {
         return RateStep::Of {
-            rate: Rate::Absent,
+            rate: RateAt::Absent,
             next: at,
         };
     }
-    match records::number_at(s, at, 4) {
+    match records::little_at(s, at, 4) {
         Number::Bad => RateStep::Bad,
-        Number::Of { n: per_s, next: p } => match records::number_at(s, p, 4) {
+        Number::Of { n: per_s, next: p } => match records::little_at(s, p, 4) {
             Number::Bad => RateStep::Bad,
             Number::Of { n: burst, next } => RateStep::Of {
-                rate: Rate::Of { per_s, burst },
+                rate: RateAt::Of { per_s, burst },
                 next,
             },
         },
@@ -201,15 +181,19 @@ fn extras_at(s: &[u8], flags: u64, at: usize) -> Extras
     ensures { λ r. ⌜ r ≡ extrasAt (now (s .entry)) flags at ⌝ }
 {
     match peer_at(s, flags, at) {
-        PeerStep::Bad => Extras::Bad,
-        PeerStep::Of { peer, next: p } => match digest_at(s, flags, p) {
-            DigestStep::Bad => Extras::Bad,
-            DigestStep::Of { digest, next: q } => match rate_at(s, flags, q) {
+        PartStep::Bad => Extras::Bad,
+        PartStep::Of {
+            part: peer,
+            next: p,
+        } => match digest_at(s, flags, p) {
+            PartStep::Bad => Extras::Bad,
+            PartStep::Of {
+                part: digest,
+                next: q,
+            } => match rate_at(s, flags, q) {
                 RateStep::Bad => Extras::Bad,
                 RateStep::Of { rate, next } => Extras::Of {
-                    peer,
-                    digest,
-                    rate,
+                    extras: ExtrasAt { peer, digest, rate },
                     next,
                 },
             },
@@ -217,20 +201,20 @@ fn extras_at(s: &[u8], flags: u64, at: usize) -> Extras
     }
 }
 
-fn audience_at(s: &[u8], flags: u64, at: usize) -> AudienceStep
+fn audience_at(s: &[u8], flags: u64, at: usize) -> PartStep
     ensures { λ r. ⌜ r ≡ audienceAt (now (s .entry)) flags at ⌝ }
 {
     if flags / 4 % 2 == 0 {
-        return AudienceStep::Of {
-            audience: Audience::Absent,
+        return PartStep::Of {
+            part: Part::Absent,
             next: at,
         };
     }
     match records::text_at(s, at, 2, Class::Printable, 1, 128) {
-        Run::Bad => AudienceStep::Bad,
-        Run::Of { from, to } => AudienceStep::Of {
-            audience: Audience::Of { from, to },
-            next: to,
+        Run::Bad => PartStep::Bad,
+        Run::Of { span } => PartStep::Of {
+            part: Part::At { span },
+            next: span.to,
         },
     }
 }
@@ -241,33 +225,26 @@ fn strings_at(s: &[u8], flags: u64, at: usize) -> Strings
 {
     match records::text_at(s, at, 2, Class::Upper, 1, 16) {
         Run::Bad => Strings::Bad,
-        Run::Of {
-            from: method,
-            to: method_end,
-        } => match records::text_at(s, method_end, 2, Class::Path, 1, 1024) {
+        Run::Of { span: method } => match records::text_at(s, method.to, 2, Class::Path, 1, 1024) {
             Run::Bad => Strings::Bad,
-            Run::Of {
-                from: path,
-                to: path_end,
-            } => match records::text_at(s, path_end, 2, Class::Name, 1, 64) {
+            Run::Of { span: path } => match records::text_at(s, path.to, 2, Class::Name, 1, 64) {
                 Run::Bad => Strings::Bad,
-                Run::Of {
-                    from: tenant,
-                    to: tenant_end,
-                } => match audience_at(s, flags, tenant_end) {
-                    AudienceStep::Bad => Strings::Bad,
-                    AudienceStep::Of { audience, next } => {
+                Run::Of { span: tenant } => match audience_at(s, flags, tenant.to) {
+                    PartStep::Bad => Strings::Bad,
+                    PartStep::Of {
+                        part: audience,
+                        next,
+                    } => {
                         if next < s.len() {
                             return Strings::Bad;
                         }
                         Strings::Of {
-                            method,
-                            method_end,
-                            path,
-                            path_end,
-                            tenant,
-                            tenant_end,
-                            audience,
+                            strings: StringsAt {
+                                method,
+                                path,
+                                tenant,
+                                audience,
+                            },
                         }
                     }
                 },
@@ -276,43 +253,44 @@ fn strings_at(s: &[u8], flags: u64, at: usize) -> Strings
     }
 }
 
-// Where the numbers are known, and the other parts begin at `at`.
-fn behind_fixed(s: &[u8], time: u64, size: u64, skew: u64, flags: u64, at: usize) -> RequestParts
-    ensures { λ r. ⌜ r ≡ fixedThen (now (s .entry)) time size skew flags at ⌝ }
+// Bit 0 of the flags is amnesia.
+fn all_of(numbers: Numbers, extras: ExtrasAt, strings: StringsAt) -> RequestAt
+    ensures { λ r. ⌜ r ≡ allOf numbers extras strings ⌝ }
 {
-    match extras_at(s, flags, at) {
+    let peer = extras.peer;
+    let digest = extras.digest;
+    let rate = extras.rate;
+    let method = strings.method;
+    let path = strings.path;
+    let tenant = strings.tenant;
+    let audience = strings.audience;
+    RequestAt {
+        now: numbers.now,
+        size: numbers.size,
+        skew: numbers.skew,
+        amnesia: numbers.flags % 2 == 1,
+        peer,
+        digest,
+        rate,
+        method,
+        path,
+        tenant,
+        audience,
+    }
+}
+
+// Where the numbers are known, and the other parts begin at `at`.
+fn behind_fixed(s: &[u8], numbers: Numbers, at: usize) -> RequestParts
+    ensures { λ r. ⌜ r ≡ fixedThen (now (s .entry)) numbers at ⌝ }
+{
+    match extras_at(s, numbers.flags, at) {
         Extras::Bad => RequestParts::Bad,
-        Extras::Of {
-            peer,
-            digest,
-            rate,
-            next,
-        } => match strings_at(s, flags, next) {
+        Extras::Of { extras, next } => match strings_at(s, numbers.flags, next) {
             Strings::Bad => RequestParts::Bad,
-            Strings::Of {
-                method,
-                method_end,
-                path,
-                path_end,
-                tenant,
-                tenant_end,
-                audience,
-            } => RequestParts::Of {
-                now: time,
-                size,
-                skew,
-                amnesia: flags % 2 == 1,
-                peer,
-                digest,
-                rate,
-                method,
-                method_end,
-                path,
-                path_end,
-                tenant,
-                tenant_end,
-                audience,
-            },
+            Strings::Of { strings } => {
+                let request = all_of(numbers, extras, strings);
+                RequestParts::Of { request }
+            }
         },
     }
 }
@@ -322,12 +300,6 @@ pub fn read_request(s: &[u8]) -> RequestParts
 {
     match fixed_at(s) {
         Fixed::Bad => RequestParts::Bad,
-        Fixed::Of {
-            now,
-            size,
-            skew,
-            flags,
-            next,
-        } => behind_fixed(s, now, size, skew, flags, next),
+        Fixed::Of { numbers, next } => behind_fixed(s, numbers, next),
     }
 }

@@ -15,8 +15,8 @@ use Rattle.basis.proofs.Sameness.{same-equal, equal-same}
 use Rattle.records.specs.Records.{little, recordBytes}
 use Rattle.records_table.specs.Order.{beforeOf, ascends}
 use Rattle.records_table.specs.Tables.{Row, encodeRow, encodeTable, GoodRow, GoodFrom, GoodTable}
-use Rattle.records_table.specs.declared.Row.{Row as Parts}
-use Rattle.records_table.specs.declared.Row.the-variants.{Of}
+use Rattle.records_table.specs.declared.RowAt.{RowAt}
+use Rattle.records_table.specs.declared.RowParts.the-variants.{Of}
 use Rattle.records_table.proofs.Rows.{row-written}
 
 row-one : (r q : Row) → GoodRow r → GoodRow q → (t u : List ℕ) → encodeRow r ++ t ≡ encodeRow q ++ u → (r ≡ q) × (t ≡ u)
@@ -24,15 +24,15 @@ row-one r q gr gq t u e =
     let s = encodeRow r ++ t in
     let x = row-written r gr s t 0 (omega arith) refl in
     let y = row-written q gq s u 0 (omega arith) e in
-    let p = places (sym (x .answer) ∙ y .answer) in
-    let tid = sym (x .tid-held) ∙ ap₂ (between s) (p .0) (p .1) ∙ y .tid-held in
-    let kid = sym (x .kid-held) ∙ ap₂ (between s) (p .2) (p .3) ∙ y .kid-held in
-    let key = sym (x .key-held) ∙ ap₂ (between s) (p .3) (p .4) ∙ y .key-held in
+    let p = same-row (sym (x .answer) ∙ y .answer) in
+    let tid = sym (x .tid-held) ∙ ap (λ (r : RowAt). between s (r .tid)) p ∙ y .tid-held in
+    let kid = sym (x .kid-held) ∙ ap (λ (r : RowAt). between s (r .kid)) p ∙ y .kid-held in
+    let key = sym (x .key-held) ∙ ap (λ (r : RowAt). between s (r .key)) p ∙ y .key-held in
     let o = build tid kid key in
     (o, one-rest (encodeRow r) (encodeRow q) t u (ap encodeRow o) e)
   where
-    places : {a b c d e f g h i j : ℕ} → _≡_ {A = Parts} (Of a b c d e) (Of f g h i j) → (a ≡ f) × (b ≡ g) × (c ≡ h) × (d ≡ i) × (e ≡ j)
-    places q = (cc, cc, cc, cc, cc)
+    same-row : {a b : RowAt} → Of a ≡ Of b → a ≡ b
+    same-row q = cc
 
     build : {a b c d e f : List ℕ} → a ≡ d → b ≡ e → c ≡ f → _≡_ {A = Row} (record { tid = a; kid = b; key = c }) (record { tid = d; kid = e; key = f })
     build p q r = rw (p, q, r)

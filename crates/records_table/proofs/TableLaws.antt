@@ -9,12 +9,12 @@ use lib.Dec.{eqb}
 use lib.ListN.{length, drop, length-drop, drop-of-length-le}
 use Rattle.basis.specs.Basis.{pick, between, IsBytes}
 use Rattle.basis.proofs.Parts.{on}
-use Rattle.records.specs.Records.{little, recordBytes, runAt, numberAt, recordAt}
+use Rattle.records.specs.Records.{little, recordBytes, runAt, littleAt, readRecord}
 use Rattle.records_table.specs.Order.{sameIds}
 use Rattle.records_table.specs.Tables.{Row, encodeRow, encodeTable, GoodFrom, GoodTable, hasRow, keyIn}
-use Rattle.records_table.specs.Reading.{rowAt, afterRow, orderedThen, rowAfter, okThen, okFrom, tableOk, foundThen, foundFrom, findFrom, lookupOf}
-use Rattle.records_table.specs.declared.Row.{Row as Parts}
-use Rattle.records_table.specs.declared.Row.the-variants.{Of, Bad}
+use Rattle.records_table.specs.Reading.{readRow, afterRow, orderedThen, rowAfter, okThen, okFrom, tableOk, foundThen, foundFrom, findFrom, lookupOf}
+use Rattle.records_table.specs.declared.RowParts.{RowParts}
+use Rattle.records_table.specs.declared.RowParts.the-variants.{Of, Bad}
 use Rattle.records_table.proofs.Rows.{row-written, row-read}
 use Rattle.records_table.proofs.Walks.{ordered}
 
@@ -40,7 +40,7 @@ ok-written [] n l t k g s at i e = ended n s t k at (at-end s at i e)
 ok-written (r ∷ rs) zero l t k g s at i e = let z : ⊥ = omega arith in elim z [ ]
 ok-written (r ∷ rs) (suc n) l t k g s at i e =
     let w = row-written r (g .0) s (encodeTable rs) at i e in
-    let m = ok-written rs n (omega arith) (r .tid) (r .kid) (g .2) s (w .next) (w .inside) (w .behind) in
+    let m = ok-written rs n (omega arith) (r .tid) (r .kid) (g .2) s (w .row .key .to) (w .inside) (w .behind) in
     rw (ne-eqb at (length s) (not-end s at r (encodeTable rs) e), w .answer, w .tid-held, w .kid-held, g .1, w .tid-held, w .kid-held) m
 
 pub table-written : (rs : List Row) → GoodTable rs → tableOk (encodeTable rs) ≡ true
@@ -63,13 +63,13 @@ unfolding okFrom GoodFrom encodeTable
 ok-read s b zero t k at e = none-left 0 s t k at (eqb-true at (length s) e)
 ok-read s b (suc n) t k at e = by (eqb at (length s)) refl e (ok-read s b n)
   where
-    went : (r : Parts) → rowAfter s t k at ≡ r → afterRow false (okThen (okFrom n s) s) r ≡ true → ((t k : List ℕ) (at : ℕ) → okFrom n s t k at ≡ true → AreRows n s t k at)
+    went : (r : RowParts) → rowAfter s t k at ≡ r → afterRow false (okThen (okFrom n s) s) r ≡ true → ((t k : List ℕ) (at : ℕ) → okFrom n s t k at ≡ true → AreRows n s t k at)
         → AreRows (suc n) s t k at
     went Bad p e m = let z : _≡_ {A = ℕ} 0 1 = ap (λ (b : Bool). pick b 1 0) e in let z : ⊥ = omega arith in elim z [ ]
-    went (Of a c d f next) p e m =
+    went (Of row) p e m =
         let o = ordered s t k at p in
-        let r = row-read s b at a c d f next (o .0) in
-        let v = m (between s a c) (between s d f) next e in
+        let r = row-read s b at (o .0) in
+        let v = m (between s (row .tid)) (between s (row .kid)) (row .key .to) e in
         record {
           rows = r .tree ∷ v .rows;
           few = omega (arith, v .few);
@@ -93,8 +93,8 @@ unfolding tableOk
 table-read s b e = let r = ok-read s b 64 [] [] 0 e in record { rows = r .rows; good = record { few = r .few; rows = r .good }; whole = r .there }
 
 -- no row begins at the end
-no-row : (s : List ℕ) (at : ℕ) → at ≡ length s → rowAt s at ≡ Bad
-unfolding rowAt recordAt numberAt runAt
+no-row : (s : List ℕ) (at : ℕ) → at ≡ length s → readRow s at ≡ Bad
+unfolding readRow readRecord littleAt runAt
 no-row s at z = rw (le-ltb (length s) at (omega arith), lt-ltb (length s - at) 2 (omega arith))
 
 find-written : (rs : List Row) (n : ℕ) → length rs ≤ n → (t k : List ℕ) → GoodFrom t k rs → (s tid kid : List ℕ) (at : ℕ) → at ≤ length s → drop at s ≡ encodeTable rs
@@ -105,7 +105,7 @@ find-written [] (suc n) l t k g s tid kid at i e = rw (no-row s at (at-end s at 
 find-written (r ∷ rs) zero l t k g s tid kid at i e = let z : ⊥ = omega arith in elim z [ ]
 find-written (r ∷ rs) (suc n) l t k g s tid kid at i e =
     let w = row-written r (g .0) s (encodeTable rs) at i e in
-    let m = find-written rs n (omega arith) (r .tid) (r .kid) (g .2) s tid kid (w .next) (w .inside) (w .behind) in
+    let m = find-written rs n (omega arith) (r .tid) (r .kid) (g .2) s tid kid (w .row .key .to) (w .inside) (w .behind) in
     rw (w .answer, w .tid-held, w .kid-held, w .key-held, m)
 
 -- in a table that was judged before, and by itself

@@ -5,51 +5,57 @@ use mathlib.Core.List.{List, []}
 use Prim.Native.Nat.{ℕ, zero, suc, _-_, _≤_}
 use lib.Dec.{eqb, ltb}
 use lib.ListN.{length}
-use Rattle.basis.specs.Basis.{pick, between}
+use Rattle.basis.specs.Basis.{pick, fromTo, between}
+use Rattle.basis.specs.declared.Span.{Span}
 use Rattle.cbor_strings.specs.declared.Class.the-variants.{Name}
-use Rattle.records.specs.Records.{afterRun, afterRecord, textAt, recordAt}
+use Rattle.records.specs.declared.RecordAt.{RecordAt}
+use Rattle.records.specs.Records.{afterRun, afterRecord, textAt, readRecord}
 use Rattle.records_table.specs.Order.{ascends, sameIds}
-use Rattle.records_table.specs.declared.Row.{Row}
-use Rattle.records_table.specs.declared.Row.the-variants.{Of, Bad}
+use Rattle.records_table.specs.declared.RowAt.{RowAt}
+use Rattle.records_table.specs.declared.RowParts.{RowParts}
+use Rattle.records_table.specs.declared.RowParts.the-variants.{Of, Bad}
+
+-- the three parts of a row
+abbrev pub rowWith : Span → Span → Span → RowAt
+rowWith tid kid key = record { tid = tid; kid = kid; key = key }
 
 -- 32 bytes of key are left behind kid, and no more
-unfoldable pub kidThen : ℕ → ℕ → ℕ → ℕ → ℕ → Row
-kidThen to tid tid-end kid kid-end = pick (ltb to kid-end) Bad (pick (eqb (to - kid-end) 32) (Of tid tid-end kid kid-end to) Bad)
+unfoldable pub rowKid : ℕ → Span → Span → RowParts
+rowKid to tid kid = pick (ltb to (kid .to)) Bad (pick (eqb (to - kid .to) 32) (Of (rowWith tid kid (fromTo (kid .to) to))) Bad)
 
-unfoldable pub tidThen : List ℕ → ℕ → ℕ → ℕ → Row
-tidThen s to tid tid-end = afterRun Bad (kidThen to tid tid-end) (textAt s 1 Name 1 64 tid-end)
+unfoldable pub rowTid : List ℕ → ℕ → Span → RowParts
+rowTid s to tid = afterRun Bad (rowKid to tid) (textAt s 1 Name 1 64 (tid .to))
 
-unfoldable pub bodyThen : List ℕ → ℕ → ℕ → Row
-bodyThen s from to = afterRun Bad (tidThen s to) (textAt s 1 Name 1 64 from)
+unfoldable pub rowBody : List ℕ → Span → RowParts
+rowBody s body = afterRun Bad (rowTid s (body .to)) (textAt s 1 Name 1 64 (body .from))
 
-unfoldable pub rowThen : List ℕ → ℕ → ℕ → ℕ → Row
-rowThen s kind from to = pick (eqb kind 1) (bodyThen s from to) Bad
+unfoldable pub rowThen : List ℕ → RecordAt → RowParts
+rowThen s found = pick (eqb (found .kind) 1) (rowBody s (found .body)) Bad
 
-unfoldable pub rowAt : List ℕ → ℕ → Row
-rowAt s at = afterRecord Bad (rowThen s) (recordAt s at)
+unfoldable pub readRow : List ℕ → ℕ → RowParts
+readRow s at = afterRecord Bad (rowThen s) (readRecord s at)
 
-abbrev pub afterRow : {A : Type 0} → A → (ℕ → ℕ → ℕ → ℕ → ℕ → A) → Row → A
+abbrev pub afterRow : {A : Type 0} → A → (RowAt → A) → RowParts → A
 afterRow bad rest Bad = bad
-afterRow bad rest (Of tid tid-end kid kid-end next) = rest tid tid-end kid kid-end next
+afterRow bad rest (Of row) = rest row
 
 -- ids that lie inside the table, so that they can be lent
-pub record Inside (s : List ℕ) (t t-end k k-end : ℕ) : Type 0 where
-  pub t-order : t ≤ t-end
-  pub t-inside : t-end ≤ length s
-  pub k-order : k ≤ k-end
-  pub k-inside : k-end ≤ length s
+pub record Inside (s : List ℕ) (row : RowAt) : Type 0 where
+  pub tid-order : row .tid .from ≤ row .tid .to
+  pub tid-inside : row .tid .to ≤ length s
+  pub kid-order : row .kid .from ≤ row .kid .to
+  pub kid-inside : row .kid .to ≤ length s
 
 -- a row behind the one with ids t and k
-unfoldable pub orderedThen : List ℕ → List ℕ → List ℕ → ℕ → ℕ → ℕ → ℕ → ℕ → Row
-orderedThen s t k tid tid-end kid kid-end next =
-    pick (ascends t k (between s tid tid-end) (between s kid kid-end)) (Of tid tid-end kid kid-end next) Bad
+unfoldable pub orderedThen : List ℕ → List ℕ → List ℕ → RowAt → RowParts
+orderedThen s t k row = pick (ascends t k (between s (row .tid)) (between s (row .kid))) (Of row) Bad
 
-unfoldable pub rowAfter : List ℕ → List ℕ → List ℕ → ℕ → Row
-rowAfter s t k at = afterRow Bad (orderedThen s t k) (rowAt s at)
+unfoldable pub rowAfter : List ℕ → List ℕ → List ℕ → ℕ → RowParts
+rowAfter s t k at = afterRow Bad (orderedThen s t k) (readRow s at)
 
--- `rest` judges what follows a row, with its ids
-abbrev pub okThen : (List ℕ → List ℕ → ℕ → Bool) → List ℕ → ℕ → ℕ → ℕ → ℕ → ℕ → Bool
-okThen rest s tid tid-end kid kid-end next = rest (between s tid tid-end) (between s kid kid-end) next
+-- `rest` judges what follows a row, with its ids; a row ends where its key does
+abbrev pub okThen : (List ℕ → List ℕ → ℕ → Bool) → List ℕ → RowAt → Bool
+okThen rest s row = rest (between s (row .tid)) (between s (row .kid)) (row .key .to)
 
 -- at most so many rows from a place on, the first behind that with ids t and k
 unfoldable pub okFrom : ℕ → List ℕ → List ℕ → List ℕ → ℕ → Bool
@@ -60,19 +66,19 @@ unfoldable pub tableOk : List ℕ → Bool
 tableOk s = okFrom 64 s [] [] 0
 
 -- the walk to the row with these ids, among at most so many rows from a place on: what is made of where its key lies, or of none
-unfoldable pub foundThen : {A : Type 0} → (ℕ → ℕ → A) → (ℕ → A) → List ℕ → List ℕ → List ℕ → ℕ → ℕ → ℕ → ℕ → ℕ → A
-foundThen key rest s tid kid t tid-end k kid-end next = pick (sameIds (between s t tid-end) (between s k kid-end) tid kid) (key kid-end next) (rest next)
+unfoldable pub foundThen : {A : Type 0} → (Span → A) → (ℕ → A) → List ℕ → List ℕ → List ℕ → RowAt → A
+foundThen key rest s tid kid row = pick (sameIds (between s (row .tid)) (between s (row .kid)) tid kid) (key (row .key)) (rest (row .key .to))
 
-unfoldable pub foundFrom : {A : Type 0} → A → (ℕ → ℕ → A) → ℕ → List ℕ → List ℕ → List ℕ → ℕ → A
+unfoldable pub foundFrom : {A : Type 0} → A → (Span → A) → ℕ → List ℕ → List ℕ → List ℕ → ℕ → A
 foundFrom none key zero s tid kid at = none
-foundFrom none key (suc n) s tid kid at = afterRow none (foundThen key (foundFrom none key n s tid kid) s tid kid) (rowAt s at)
+foundFrom none key (suc n) s tid kid at = afterRow none (foundThen key (foundFrom none key n s tid kid) s tid kid) (readRow s at)
 
 -- the key's bytes, and the place where it lies in the table
 unfoldable pub findFrom : ℕ → List ℕ → List ℕ → List ℕ → ℕ → List ℕ
 findFrom n s tid kid at = foundFrom [] (between s) n s tid kid at
 
-abbrev pub keyStart : ℕ → ℕ → ℕ
-keyStart from to = from
+abbrev pub keyStart : Span → ℕ
+keyStart key = key .from
 
 unfoldable pub placeFrom : ℕ → List ℕ → List ℕ → List ℕ → ℕ → ℕ
 placeFrom n s tid kid at = foundFrom 0 keyStart n s tid kid at

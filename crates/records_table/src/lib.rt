@@ -1,23 +1,24 @@
 // Key tables: rows of tid, kid and key, strictly ascending. The whole table is judged on every call, and
 // the key is handed back as a part of the table.
+use basis::Span;
 use cbor_strings::Class;
-use records::Record;
+use records::RecordParts;
 use records::Run;
 ghost use mathlib.Core.Path.{_≡_};
 ghost use Rattle.records_table.specs.Order.{beforeOf, ascends, sameIds};
 ghost use Rattle.basis.specs.Basis.{between, behind};
-ghost use Rattle.records_table.specs.Reading.{Inside, bodyThen, rowAt, rowAfter, tableOk};
+ghost use Rattle.records_table.specs.Reading.{Inside, rowBody, readRow, rowAfter, tableOk};
 ghost use Rattle.records_table.specs.Reading.{findFrom, placeFrom, lookupOf, lookupPlace};
 
-// Where tid and kid lie; the key lies from the end of kid to the end of the row.
-pub enum Row {
-    Of {
-        tid: usize,
-        tid_end: usize,
-        kid: usize,
-        kid_end: usize,
-        next: usize,
-    },
+// Where the parts of a row lie; the row ends where its key does.
+pub struct RowAt {
+    pub tid: Span,
+    pub kid: Span,
+    pub key: Span,
+}
+
+pub enum RowParts {
+    Of { row: RowAt },
     Bad,
 }
 
@@ -54,77 +55,83 @@ fn row_before(t: &[u8], k: &[u8], tid: &[u8], kid: &[u8]) -> bool
     false
 }
 
-// The body of a row from `from` to `to`.
-fn row_body(s: &[u8], from: usize, to: usize) -> Row
-    ensures { λ r. ⌜ r ≡ bodyThen (now (s .entry)) from to ⌝ }
+fn row_body(s: &[u8], body: Span) -> RowParts
+    ensures { λ r. ⌜ r ≡ rowBody (now (s .entry)) body ⌝ }
 {
-    match records::text_at(s, from, 1, Class::Name, 1, 64) {
-        Run::Bad => Row::Bad,
-        Run::Of {
-            from: tid,
-            to: tid_end,
-        } => match records::text_at(s, tid_end, 1, Class::Name, 1, 64) {
-            Run::Bad => Row::Bad,
-            Run::Of {
-                from: kid,
-                to: kid_end,
-            } => {
-                if to < kid_end {
-                    return Row::Bad;
+    match records::text_at(s, body.from, 1, Class::Name, 1, 64) {
+        Run::Bad => RowParts::Bad,
+        Run::Of { span: tid } => match records::text_at(s, tid.to, 1, Class::Name, 1, 64) {
+            Run::Bad => RowParts::Bad,
+            Run::Of { span: kid } => {
+                if body.to < kid.to {
+                    return RowParts::Bad;
                 }
-                if to - kid_end == 32 {
-                    return Row::Of {
-                        tid,
-                        tid_end,
-                        kid,
-                        kid_end,
-                        next: to,
+                if body.to - kid.to == 32 {
+                    return RowParts::Of {
+                        row: RowAt {
+                            tid,
+                            kid,
+                            key: Span {
+                                from: kid.to,
+                                to: body.to,
+                            },
+                        },
                     };
                 }
-                Row::Bad
+                RowParts::Bad
             }
         },
     }
 }
 
-fn row_at(s: &[u8], at: usize) -> Row
-    ensures { λ r. ⌜ r ≡ rowAt (now (s .entry)) at ⌝ }
+fn row_at(s: &[u8], at: usize) -> RowParts
+    ensures { λ r. ⌜ r ≡ readRow (now (s .entry)) at ⌝ }
 {
     match records::record_at(s, at) {
-        Record::Bad => Row::Bad,
-        Record::Of { kind, from, to } => {
-            if kind == 1 {
-                return row_body(s, from, to);
+        RecordParts::Bad => RowParts::Bad,
+        RecordParts::Of { record } => {
+            if record.kind == 1 {
+                let body = record.body;
+                return row_body(s, body);
             }
-            Row::Bad
+            RowParts::Bad
         }
     }
 }
 
-// The row at a place, if it stands behind the one whose ids lie there.
-fn row_after(s: &[u8], at: usize, t: usize, end: usize, k: usize, last: usize) -> Row
-    requires { ⌜ Inside (now s) t end k last ⌝ }
-    ensures { λ r. ⌜ r ≡ rowAfter (now (s .entry)) (between (now (s .entry)) t end) (between (now (s .entry)) k last) at ⌝ }
+// Whether a row's ids stand behind those of the last one, where they lie.
+fn ids_ascend(s: &[u8], last: RowAt, row: RowAt) -> bool
+    requires { ⌜ Inside (now s) last × Inside (now s) row ⌝ }
+    ensures { λ r. ⌜ r ≡ ascends (between (now (s .entry)) (last .tid)) (between (now (s .entry)) (last .kid)) (between (now (s .entry)) (row .tid)) (between (now (s .entry)) (row .kid)) ⌝ }
+{
+    let t = last.tid.from;
+    let t_end = last.tid.to;
+    let k = last.kid.from;
+    let k_end = last.kid.to;
+    let tid = row.tid.from;
+    let tid_end = row.tid.to;
+    let kid = row.kid.from;
+    let kid_end = row.kid.to;
+    row_before(
+        &s[t..t_end],
+        &s[k..k_end],
+        &s[tid..tid_end],
+        &s[kid..kid_end],
+    )
+}
+
+// The row at a place, if it stands behind the last one.
+fn row_after(s: &[u8], at: usize, last: RowAt) -> RowParts
+    requires { ⌜ Inside (now s) last ⌝ }
+    ensures { λ r. ⌜ r ≡ rowAfter (now (s .entry)) (between (now (s .entry)) (last .tid)) (between (now (s .entry)) (last .kid)) at ⌝ }
 {
     match row_at(s, at) {
-        Row::Bad => Row::Bad,
-        Row::Of {
-            tid,
-            tid_end,
-            kid,
-            kid_end,
-            next,
-        } => {
-            if row_before(&s[t..end], &s[k..last], &s[tid..tid_end], &s[kid..kid_end]) {
-                return Row::Of {
-                    tid,
-                    tid_end,
-                    kid,
-                    kid_end,
-                    next,
-                };
+        RowParts::Bad => RowParts::Bad,
+        RowParts::Of { row } => {
+            if ids_ascend(s, last, row) {
+                return RowParts::Of { row };
             }
-            Row::Bad
+            RowParts::Bad
         }
     }
 }
@@ -132,32 +139,23 @@ fn row_after(s: &[u8], at: usize, t: usize, end: usize, k: usize, last: usize) -
 pub fn table_ok(s: &[u8]) -> bool
     ensures { λ r. ⌜ r ≡ tableOk (now (s .entry)) ⌝ }
 {
+    let none = Span { from: 0, to: 0 };
+    let mut last = RowAt {
+        tid: none,
+        kid: none,
+        key: none,
+    };
     let mut left: u32 = 64;
-    let mut p: usize = 0;
-    let mut t: usize = 0;
-    let mut t_end: usize = 0;
-    let mut k: usize = 0;
-    let mut k_end: usize = 0;
-    while p != s.len() {
+    while last.key.to != s.len() {
         if left == 0 {
             return false;
         }
-        match row_after(s, p, t, t_end, k, k_end) {
-            Row::Bad => {
+        match row_after(s, last.key.to, last) {
+            RowParts::Bad => {
                 return false;
             }
-            Row::Of {
-                tid,
-                tid_end,
-                kid,
-                kid_end,
-                next,
-            } => {
-                t = tid;
-                t_end = tid_end;
-                k = kid;
-                k_end = kid_end;
-                p = next;
+            RowParts::Of { row } => {
+                last = row;
             }
         }
         left -= 1;
@@ -184,20 +182,20 @@ pub fn find<'a>(table: &'a [u8], tid: &[u8], kid: &[u8]) -> &'a [u8]
     let mut p: usize = 0;
     while 0 < rows {
         match row_at(table, p) {
-            Row::Bad => {
+            RowParts::Bad => {
                 return &table[0..0];
             }
-            Row::Of {
-                tid: t,
-                tid_end,
-                kid: k,
-                kid_end,
-                next,
-            } => {
-                if same_ids(&table[t..tid_end], &table[k..kid_end], tid, kid) {
-                    return &table[kid_end..next];
+            RowParts::Of { row } => {
+                let t = row.tid.from;
+                let t_end = row.tid.to;
+                let k = row.kid.from;
+                let k_end = row.kid.to;
+                let key_end = row.key.to;
+                if same_ids(&table[t..t_end], &table[k..k_end], tid, kid) {
+                    let key = row.key.from;
+                    return &table[key..key_end];
                 }
-                p = next;
+                p = key_end;
             }
         }
         rows -= 1;

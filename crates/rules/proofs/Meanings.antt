@@ -9,7 +9,7 @@ use borrow.Author.Tests.{eqb-true, eq-eqb, le-leb}
 use lib.Dec.{eqb}
 use lib.ListN.{length, drop}
 use Rattle.basis.specs.Basis.{pick, IsBytes}
-use Rattle.token_cidr.specs.Prefixes.{Prefix, Good}
+use Rattle.token_cidr.specs.Prefixes.{Prefix, GoodPrefix}
 use Rattle.token_cidr.specs.Bits.{Agree, agreeOf}
 use Rattle.token_cidr.proofs.BitLaws.{agree-bits, bits-agree}
 use Rattle.token_caveat.specs.Caveats.{exp, method, ip-cidr}
@@ -44,14 +44,14 @@ unfolding caveatHolds
 far-expiry-holds r tid h = le-leb (r .now) (0xffffffffffffffff + r .skew) (omega arith)
 
 -- 01: "ip_cidr, a present peer's first n bits agree"
-address-bytes : (prefix : Prefix) → Good prefix → IsBytes (addressBytes prefix)
+address-bytes : (prefix : Prefix) → GoodPrefix prefix → IsBytes (addressBytes prefix)
 address-bytes prefix g zero = g .a-byte
 address-bytes prefix g (suc zero) = g .b-byte
 address-bytes prefix g (suc (suc zero)) = g .c-byte
 address-bytes prefix g (suc (suc (suc zero))) = g .d-byte
 address-bytes prefix g (suc (suc (suc (suc i)))) = omega arith
 
-pub first-bits : (asked : Request) (tid : List ℕ) (prefix : Prefix) → Good prefix → (peer : List ℕ) → IsBytes peer → asked .peer ≡ some peer
+pub first-bits : (asked : Request) (tid : List ℕ) (prefix : Prefix) → GoodPrefix prefix → (peer : List ℕ) → IsBytes peer → asked .peer ≡ some peer
     → (caveatHolds asked tid (ip-cidr prefix) ≡ true → Agree (addressBytes prefix) peer (prefix .size))
     × (Agree (addressBytes prefix) peer (prefix .size) → caveatHolds asked tid (ip-cidr prefix) ≡ true)
 unfolding caveatHolds

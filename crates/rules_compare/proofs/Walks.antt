@@ -10,10 +10,11 @@ use lib.Dec.{eqb, leb}
 use lib.ListN.{length, drop, getD, drop-of-length-le}
 use lib.Seq.{drop-cons}
 use Rattle.basis.specs.Basis.{pick, between}
+use Rattle.basis.specs.declared.Span.{Span}
 use Rattle.basis.specs.Same.{sameOf}
 use Rattle.cbor_strings.specs.Strings.{readString}
 use Rattle.cbor_strings.specs.declared.Class.the-variants.{Upper}
-use Rattle.cbor_strings.specs.declared.Span.the-variants.{Of, Bad}
+use Rattle.cbor_strings.specs.declared.Content.the-variants.{Of, Bad}
 use Rattle.rules_compare.specs.Fitting.{fitsOf}
 use Rattle.rules_compare.specs.Comparing.{memberAt}
 
@@ -81,12 +82,12 @@ module _ (k : ℕ) (s m : List ℕ) (p : ℕ) (g : 0 < k) where
   unfolding memberAt
   no-method e = rw e at one-method
 
-  module _ {from to : ℕ} (e : readString s p Upper 1 16 ≡ Of from to) where
-    pub this-method : sameOf (between s from to) m ≡ true → true ≡ memberAt k s m p
+  module _ {part : Span} (e : readString s p Upper 1 16 ≡ Of part) where
+    pub this-method : sameOf (between s part) m ≡ true → true ≡ memberAt k s m p
     unfolding memberAt
     this-method q = rw (e, q) at one-method
 
-    pub next-method : sameOf (between s from to) m ≡ false → memberAt (k - 1) s m to ≡ memberAt k s m p
+    pub next-method : sameOf (between s part) m ≡ false → memberAt (k - 1) s m (part .to) ≡ memberAt k s m p
     unfolding memberAt
     next-method q = rw (e, q) at one-method
 

@@ -1,19 +1,18 @@
 // The comparisons that scope and caveats are judged by, each of one part of a token with one part of a request,
 // where they lie.
+use basis::Part;
 use cbor_strings::Class;
-use cbor_strings::Span;
-use records_request::Audience;
-use records_request::Digest;
-use records_request::Peer;
-use records_request::Rate;
+use cbor_strings::Content;
+use cbor_values::ListAt;
+use records_request::RateAt;
+use token_cidr::Network;
 use token_scope::Limit;
-use token_scope::Prefix;
 ghost use mathlib.Core.Path.{_≡_};
 ghost use Prim.Native.Nat.{_+_};
 ghost use lib.Dec.{leb};
 ghost use Rattle.rules_compare.specs.Fitting.{fitsOf};
-ghost use Rattle.rules_compare.specs.Comparing.{memberAt, rateHolds, prefixFits, limitHolds};
-ghost use Rattle.rules_compare.specs.Comparing.{audienceIs, digestIs, peerAgrees};
+ghost use Rattle.rules_compare.specs.Comparing.{memberIn, rateHolds, prefixFits, limitHolds};
+ghost use Rattle.rules_compare.specs.Comparing.{partIs, peerAgrees};
 
 // Whether a path starts with a prefix. The loop goes on behind a byte that differs, so that the compiler
 // takes many at a time.
@@ -34,18 +33,20 @@ pub fn fits(prefix: &[u8], path: &[u8]) -> bool
     fitting
 }
 
-// Whether a method is one of `count` from a place on.
-pub fn method_in(s: &[u8], from: usize, count: u64, method: &[u8]) -> bool
-    ensures { λ r. ⌜ r ≡ memberAt count (now (s .entry)) (now (method .entry)) from ⌝ }
+// Whether a method is one of a list.
+pub fn method_in(s: &[u8], methods: ListAt, method: &[u8]) -> bool
+    ensures { λ r. ⌜ r ≡ memberIn (now (s .entry)) methods (now (method .entry)) ⌝ }
 {
-    let mut p = from;
-    let mut k = count;
+    let mut p = methods.span.from;
+    let mut k = methods.count;
     while 0 < k {
         match cbor_strings::read_string(s, p, Class::Upper, 1, 16) {
-            Span::Bad { kind: _, at: _ } => {
+            Content::Bad { kind: _, at: _ } => {
                 return false;
             }
-            Span::Of { from: a, to: b } => {
+            Content::Of { span } => {
+                let a = span.from;
+                let b = span.to;
                 if basis::same(&s[a..b], method) {
                     return true;
                 }
@@ -69,12 +70,12 @@ pub fn within_skew(a: u64, b: u64, skew: u64) -> bool
     a <= last
 }
 
-pub fn rate_holds(rate: Rate, per_s: u64, burst: u64) -> bool
+pub fn rate_holds(rate: RateAt, per_s: u64, burst: u64) -> bool
     ensures { λ r. ⌜ r ≡ rateHolds rate «per_s» burst ⌝ }
 {
     match rate {
-        Rate::Absent => false,
-        Rate::Of { per_s: p, burst: b } => {
+        RateAt::Absent => false,
+        RateAt::Of { per_s: p, burst: b } => {
             if p <= per_s {
                 return b <= burst;
             }
@@ -83,12 +84,12 @@ pub fn rate_holds(rate: Rate, per_s: u64, burst: u64) -> bool
     }
 }
 
-pub fn prefix_fits(s: &[u8], prefix: Prefix, path: &[u8]) -> bool
+pub fn prefix_fits(s: &[u8], prefix: Part, path: &[u8]) -> bool
     ensures { λ r. ⌜ r ≡ prefixFits (now (s .entry)) prefix (now (path .entry)) ⌝ }
 {
     match prefix {
-        Prefix::Absent => true,
-        Prefix::Of { from, to } => fits(basis::part(s, from, to), path),
+        Part::Absent => true,
+        Part::At { span } => fits(basis::lend(s, span), path),
     }
 }
 
@@ -101,38 +102,30 @@ pub fn limit_holds(limit: Limit, size: u64) -> bool
     }
 }
 
-pub fn audience_is(body: &[u8], audience: Audience, a: &[u8]) -> bool
-    ensures { λ r. ⌜ r ≡ audienceIs (now (body .entry)) audience (now (a .entry)) ⌝ }
+// Whether a part is present and holds these bytes.
+pub fn part_is(body: &[u8], part: Part, x: &[u8]) -> bool
+    ensures { λ r. ⌜ r ≡ partIs (now (body .entry)) part (now (x .entry)) ⌝ }
 {
-    match audience {
-        Audience::Absent => false,
-        Audience::Of { from, to } => basis::same(a, basis::part(body, from, to)),
+    match part {
+        Part::Absent => false,
+        Part::At { span } => basis::same(x, basis::lend(body, span)),
     }
 }
 
-pub fn digest_is(body: &[u8], digest: Digest, d: &[u8]) -> bool
-    ensures { λ r. ⌜ r ≡ digestIs (now (body .entry)) digest (now (d .entry)) ⌝ }
-{
-    match digest {
-        Digest::Absent => false,
-        Digest::At { from } => basis::same(d, basis::run(body, from, 64)),
-    }
-}
-
-// Whether the first n bits of a present peer are those of the address a.b.c.d.
-pub fn peer_agrees(body: &[u8], peer: Peer, a: u32, b: u32, c: u32, d: u32, n: u32) -> bool
-    ensures { λ r. ⌜ r ≡ peerAgrees (now (body .entry)) peer a b c d n ⌝ }
+// Whether the first bits of a present peer are those of the network's address.
+pub fn peer_agrees(body: &[u8], peer: Part, network: Network) -> bool
+    ensures { λ r. ⌜ r ≡ peerAgrees (now (body .entry)) peer network ⌝ }
 {
     match peer {
-        Peer::Absent => false,
-        Peer::At { from } => {
+        Part::Absent => false,
+        Part::At { span } => {
             let address = [
-                (a % 256) as u8,
-                (b % 256) as u8,
-                (c % 256) as u8,
-                (d % 256) as u8,
+                (network.a % 256) as u8,
+                (network.b % 256) as u8,
+                (network.c % 256) as u8,
+                (network.d % 256) as u8,
             ];
-            token_cidr::first_bits_agree(&address, basis::run(body, from, 4), n)
+            token_cidr::first_bits_agree(&address, basis::lend(body, span), network.size)
         }
     }
 }

@@ -16,7 +16,7 @@ use Rattle.cbor_values.specs.declared.Item.the-variants.{End, Bad as NoItem}
 use Rattle.token_caveat.specs.Caveats.{Caveat, encodeCaveat, GoodCaveat}
 use Rattle.token_caveat.specs.Reading.{caveatOf}
 use Rattle.token_caveat_values.specs.declared.CaveatParts.{CaveatParts}
-use Rattle.token_caveat_values.specs.declared.CaveatParts.the-variants.{Of as CaveatAt, Bad as NoCaveat}
+use Rattle.token_caveat_values.specs.declared.CaveatParts.the-variants.{Of as CaveatFound, Bad as NoCaveat}
 use Rattle.token_caveat.proofs.CaveatLaws.{caveat-written, caveat-read}
 use Rattle.token_caveat.proofs.OneCaveat.{caveat-one}
 use Rattle.token.specs.Tokens.{encodeCaveats, AllCaveats}
@@ -48,7 +48,7 @@ caveat-is-there s b at to = by (caveatOf (drop at s)) refl
   where
     by : (r : CaveatParts) → caveatOf (drop at s) ≡ r → endBy at r ≡ End to → IsCaveatAt s at to
     by (NoCaveat kind a) p e = let z : _≡_ {A = ℕ} 0 1 = cc in let z : ⊥ = omega arith in elim z [ ]
-    by (CaveatAt part n) p e =
+    by (CaveatFound part n) p e =
         let x : at + n ≡ to = cc in
         let c = caveat-read (drop at s) (drop-bytes at s b) p in
         record {

@@ -5,12 +5,13 @@ use Prim.Native.Nat.{ℕ, _+_, _-_, _≤_}
 use native.Mathlib.Omega.{arith}
 use borrow.Author.Tests.{eq-eqb}
 use lib.ListN.{length, drop, length-append, length-drop}
-use Rattle.basis.specs.Basis.{ascii, between}
+use Rattle.basis.specs.Basis.{ascii, fromTo, between}
+use Rattle.cbor_values.specs.Lists.{listOf}
 use Rattle.basis.specs.Same.{sameOf}
 use Rattle.basis.proofs.Parts.{past, ends, lies}
 use Rattle.cbor_heads.specs.Heads.{head}
 use Rattle.cbor_strings.specs.Strings.{string}
-use Rattle.cbor_strings.specs.declared.Span.the-variants.{Of as Found}
+use Rattle.cbor_strings.specs.declared.Content.the-variants.{Of as Found}
 use Rattle.cbor_heads.proofs.CountLaws.{head-there, count}
 use Rattle.cbor_heads.proofs.HeadLengths.{head-one}
 use Rattle.cbor_strings.proofs.StringLaws.{read-run-written, content-there}
@@ -26,22 +27,23 @@ use Rattle.token_caveat.specs.Caveats.{Caveat, GoodName}
 use Rattle.token.specs.Tokens.{Token, encodeCaveats, tokenBytes, encodeToken, AllCaveats, GoodToken}
 use Rattle.token_front.specs.Front.{rThen, rKeyThen, caveatsThen, cThen, mapThen, frontOf}
 use Rattle.token_back.specs.Back.{tagAt, tagField, versionThen, versionAt, versionField}
-use Rattle.token_back.specs.Back.{endThen, tidThen, kidThen, vThen, backOf}
-use Rattle.token.specs.Reading.{tokenBy, tokenOf}
-use Rattle.token_front.specs.declared.Front.the-variants.{Of as FrontOf}
-use Rattle.token_back.specs.declared.Back.the-variants.{Of as BackOf}
+use Rattle.token_back.specs.Back.{threeOf, endThen, tidThen, kidThen, vThen, backOf}
+use Rattle.token.specs.Reading.{bothOf, tokenBy, tokenOf}
+use Rattle.token_front.specs.declared.FrontAt.{FrontAt}
+use Rattle.token_front.specs.declared.FrontParts.the-variants.{Of as FrontFound}
+use Rattle.token_back.specs.declared.BackAt.{BackAt}
+use Rattle.token_back.specs.declared.BackParts.the-variants.{Of as BackFound}
+use Rattle.token.specs.declared.TokenAt.{TokenAt}
 use Rattle.token.specs.declared.TokenParts.the-variants.{Of}
 use Rattle.token.proofs.CaveatLists.{caveats-written}
 use Rattle.token.proofs.Holds.{HoldsFront, HoldsBack, Holds}
 
 -- c and r, at the front
-pub record FrontWritten (s : List ℕ) (cs : List Caveat) (x : Scope) (next : ℕ) (rest : List ℕ) : Type 0 where
-  pub from : ℕ
-  pub to : ℕ
-  pub scope : ℕ
-  pub answer : frontOf s ≡ FrontOf (length cs) from to scope next
-  pub holds : HoldsFront s cs x (length cs) from to scope next
-  pub behind : drop next s ≡ rest
+pub record FrontWritten (s : List ℕ) (cs : List Caveat) (x : Scope) (rest : List ℕ) : Type 0 where
+  pub front : FrontAt
+  pub answer : frontOf s ≡ FrontFound front
+  pub holds : HoldsFront s cs x (front .caveats) (front .scope)
+  pub behind : drop (front .scope .to) s ≡ rest
 
 module _ (cs : List Caveat) (gc : AllCaveats cs) (few : length cs ≤ 64) (x : Scope) (gx : GoodScope x) (s rest : List ℕ) where
   abbrev n : ℕ
@@ -59,10 +61,7 @@ module _ (cs : List Caveat) (gc : AllCaveats cs) (few : length cs ≤ 64) (x : S
   abbrev rb : List ℕ
   rb = encodeScope x
 
-  abbrev front-next : ℕ
-  front-next = 0 + length (head 5 6) + length kc + length (head 4 n) + length cb + length kr + length rb
-
-  pub front-written : drop 0 s ≡ head 5 6 ++ (kc ++ (head 4 n ++ (cb ++ (kr ++ (rb ++ rest))))) → FrontWritten s cs x front-next rest
+  pub front-written : drop 0 s ≡ head 5 6 ++ (kc ++ (head 4 n ++ (cb ++ (kr ++ (rb ++ rest))))) → FrontWritten s cs x rest
   unfolding frontOf mapThen cThen caveatsThen rKeyThen rThen keysOf indexFrom sameOf
   front-written d0 =
       let a1 = 0 + length (head 5 6) in
@@ -84,9 +83,7 @@ module _ (cs : List Caveat) (gc : AllCaveats cs) (few : length cs ≤ 64) (x : S
       let c4 = wanted-written TokenKeys (ascii "r") (omega arith) 1 refl (omega arith) s (rb ++ rest) a4 d4 in
       let w = scope-written x gx s rest a5 d5 in
       record {
-        from = a3;
-        to = a4;
-        scope = a5;
+        front = record { caveats = listOf n (fromTo a3 a4); scope = fromTo a5 a6 };
         answer = rw (c0, c1, c2, c3, c4, w .answer);
         holds = record {
           counted-so = refl;
@@ -100,13 +97,9 @@ module _ (cs : List Caveat) (gc : AllCaveats cs) (few : length cs ≤ 64) (x : S
 
 -- s, v, kid and tid, with nothing behind them
 pub record BackWritten (s tb kb ib : List ℕ) (at : ℕ) : Type 0 where
-  pub tag : ℕ
-  pub kid : ℕ
-  pub kid-end : ℕ
-  pub tid : ℕ
-  pub tid-end : ℕ
-  pub answer : backOf s at ≡ BackOf tag kid kid-end tid tid-end
-  pub holds : HoldsBack s tb kb ib tag kid kid-end tid tid-end
+  pub back : BackAt
+  pub answer : backOf s at ≡ BackFound back
+  pub holds : HoldsBack s tb kb ib (back .tag) (back .kid) (back .tid)
 
 module _ (tb kb ib : List ℕ) (lt : length tb ≡ 32) (gk : GoodName kb) (gi : GoodName ib) (s : List ℕ) (at : ℕ) where
   abbrev ks : List ℕ
@@ -122,7 +115,7 @@ module _ (tb kb ib : List ℕ) (lt : length tb ≡ 32) (gk : GoodName kb) (gi : 
   ki = entry "tid" (text ib)
 
   tag-written : (rest : List ℕ) → drop at s ≡ ks ++ (string 2 tb ++ rest)
-      → tagField s at ≡ Found (at + length ks + length (head 2 (length tb))) (at + length ks + length (string 2 tb))
+      → tagField s at ≡ Found (fromTo (at + length ks + length (head 2 (length tb))) (at + length ks + length (string 2 tb)))
   unfolding tagField tagAt keysOf indexFrom sameOf
   tag-written rest e =
       let a = at + length ks in
@@ -131,7 +124,7 @@ module _ (tb kb ib : List ℕ) (lt : length tb ≡ 32) (gk : GoodName kb) (gi : 
         wanted-written TokenKeys (ascii "s") (omega arith) 2 refl (omega arith) s (string 2 tb ++ rest) at e,
         read-run-written s tb rest a 2 d (omega arith) 32 32 (omega arith) (omega arith),
       )
-      (ap (Found (a + length (head 2 (length tb)))) (ends (head 2 (length tb)) tb a))
+      (ap (λ (to : ℕ). Found (fromTo (a + length (head 2 (length tb))) to)) (ends (head 2 (length tb)) tb a))
 
   version-written : (p : ℕ) (rest : List ℕ) → drop p s ≡ kv ++ (head 0 1 ++ rest) → versionField s p ≡ End (p + length kv + length (head 0 1))
   unfolding versionField versionAt versionThen keysOf indexFrom sameOf
@@ -142,10 +135,10 @@ module _ (tb kb ib : List ℕ) (lt : length tb ≡ 32) (gk : GoodName kb) (gi : 
         number-written s rest (p + length kv) 1 0xffffffffffffffff (omega arith) (omega arith) d,
       )
 
-  tag-lies : (p : ℕ) (rest : List ℕ) → drop p s ≡ string 2 tb ++ rest → between s (p + length (head 2 (length tb))) (p + length (head 2 (length tb)) + 32) ≡ tb
+  tag-lies : (p : ℕ) (rest : List ℕ) → drop p s ≡ string 2 tb ++ rest → between s (fromTo (p + length (head 2 (length tb))) (p + length (string 2 tb))) ≡ tb
   tag-lies p rest e =
       let f = p + length (head 2 (length tb)) in
-      let l : f + 32 - f ≡ length tb = omega arith in
+      let l : p + length (string 2 tb) - f ≡ length tb = rw (← ends (head 2 (length tb)) tb p) (omega arith) in
       rw l (content-there s tb rest p 2 e (omega arith))
 
   -- tid is the last, so that its end is the end of all
@@ -179,11 +172,7 @@ module _ (tb kb ib : List ℕ) (lt : length tb ≡ 32) (gk : GoodName kb) (gi : 
       let c3 = name-field-written TokenKeys 5 (omega arith) (ascii "tid") (omega arith) refl s [] a5 ib gi d5 in
       let l : a6 ≡ length s = whole a5 d5 in
       record {
-        tag = a1 + length h;
-        kid = k1;
-        kid-end = a5;
-        tid = i1;
-        tid-end = a6;
+        back = threeOf (fromTo (a1 + length h) a2) (fromTo k1 a5) (fromTo i1 a6);
         answer = rw (tag-written (kv ++ (head 0 1 ++ (kk ++ (ki ++ [])))) d0, version-written a2 (kk ++ (ki ++ [])) d2, c2, c3, eq-eqb a6 (length s) l);
         holds = record {
           tag-held = tag-lies a1 (kv ++ (head 0 1 ++ (kk ++ (ki ++ [])))) d1;
@@ -194,17 +183,9 @@ module _ (tb kb ib : List ℕ) (lt : length tb ≡ 32) (gk : GoodName kb) (gi : 
 
 -- the whole token
 pub record Written (s : List ℕ) (t : Token) : Type 0 where
-  pub from : ℕ
-  pub to : ℕ
-  pub scope : ℕ
-  pub scope-end : ℕ
-  pub tag : ℕ
-  pub kid : ℕ
-  pub kid-end : ℕ
-  pub tid : ℕ
-  pub tid-end : ℕ
-  pub answer : tokenOf s ≡ Of (length (t .caveats)) from to scope scope-end tag kid kid-end tid tid-end
-  pub holds : Holds s t (length (t .caveats)) from to scope scope-end tag kid kid-end tid tid-end
+  pub parts : TokenAt
+  pub answer : tokenOf s ≡ Of parts
+  pub holds : Holds s t parts
 
 pub token-written : (t : Token) → GoodToken t → (s : List ℕ) → s ≡ encodeToken t → Written s t
 unfolding tokenBytes tokenBy
@@ -218,18 +199,9 @@ token-written t g s same =
     text (ascii "s") ++ (string 2 (t .tag) ++ (text (ascii "v") ++ (head 0 1 ++ (entry "kid" (text (t .kid)) ++ (entry "tid" (text (t .tid)) ++ []))))) in
     let e : drop 0 s ≡ head 5 6 ++ (kc ++ (head 4 n ++ (cb ++ (kr ++ (rb ++ back))))) = same ∙ simp (append-assoc, append-nil) in
     let f = front-written (t .caveats) (g .each) (g .few) (t .scope) (g .good-scope) s back e in
-    let at = 0 + length (head 5 6) + length kc + length (head 4 n) + length cb + length kr + length rb in
-    let r = back-written (t .tag) (t .kid) (t .tid) (g .tag-long) (g .good-kid) (g .good-tid) s at (f .behind) in
+    let r = back-written (t .tag) (t .kid) (t .tid) (g .tag-long) (g .good-kid) (g .good-tid) s (f .front .scope .to) (f .behind) in
     record {
-      from = f .from;
-      to = f .to;
-      scope = f .scope;
-      scope-end = at;
-      tag = r .tag;
-      kid = r .kid;
-      kid-end = r .kid-end;
-      tid = r .tid;
-      tid-end = r .tid-end;
+      parts = bothOf (f .front) (r .back);
       answer = rw (f .answer, r .answer);
       holds = record { front = f .holds; back = r .holds };
     }

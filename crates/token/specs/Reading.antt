@@ -2,24 +2,29 @@
 -- the answer."
 use mathlib.Core.List.{List}
 use Prim.Native.Nat.{ℕ}
-use lib.ListN.{length}
-use Rattle.token_front.specs.declared.Front.{Front}
-use Rattle.token_front.specs.declared.Front.the-variants.{Of as FrontOf, Bad as NoFront}
-use Rattle.token_back.specs.declared.Back.{Back}
-use Rattle.token_back.specs.declared.Back.the-variants.{Of as BackOf, Bad as NoBack}
+use Rattle.token_front.specs.declared.FrontAt.{FrontAt}
+use Rattle.token_front.specs.declared.FrontParts.{FrontParts}
+use Rattle.token_front.specs.declared.FrontParts.the-variants.{Of as FrontFound, Bad as NoFront}
+use Rattle.token_back.specs.declared.BackAt.{BackAt}
+use Rattle.token_back.specs.declared.BackParts.{BackParts}
+use Rattle.token_back.specs.declared.BackParts.the-variants.{Of as BackFound, Bad as NoBack}
+use Rattle.token.specs.declared.TokenAt.{TokenAt}
 use Rattle.token.specs.declared.TokenParts.{TokenParts}
 use Rattle.token.specs.declared.TokenParts.the-variants.{Of, Bad}
 use Rattle.token_front.specs.Front.{frontOf}
 use Rattle.token_back.specs.Back.{backOf}
 
 -- the whole
-abbrev pub tokenThen : ℕ → ℕ → ℕ → ℕ → ℕ → Back → TokenParts
-tokenThen count from to scope scope-end (NoBack kind at) = Bad kind at
-tokenThen count from to scope scope-end (BackOf tag kid kid-end tid tid-end) = Of count from to scope scope-end tag kid kid-end tid tid-end
+abbrev pub bothOf : FrontAt → BackAt → TokenAt
+bothOf front back = record { caveats = front .caveats; scope = front .scope; tag = back .tag; kid = back .kid; tid = back .tid }
 
-unfoldable pub tokenBy : List ℕ → Front → TokenParts
+abbrev pub backThen : FrontAt → BackParts → TokenParts
+backThen front (NoBack kind at) = Bad kind at
+backThen front (BackFound back) = Of (bothOf front back)
+
+unfoldable pub tokenBy : List ℕ → FrontParts → TokenParts
 tokenBy s (NoFront kind at) = Bad kind at
-tokenBy s (FrontOf count from to scope scope-end) = tokenThen count from to scope scope-end (backOf s scope-end)
+tokenBy s (FrontFound front) = backThen front (backOf s (front .scope .to))
 
 abbrev pub tokenOf : List ℕ → TokenParts
 tokenOf s = tokenBy s (frontOf s)

@@ -6,27 +6,30 @@ use Prim.Native.Nat.{ℕ}
 use lib.Dec.{eqb}
 use lib.ListN.{length}
 use Rattle.basis.specs.Basis.{pick}
+use Rattle.basis.specs.declared.Span.{Span}
 use Rattle.cbor_strings.specs.Strings.{readRun}
-use Rattle.cbor_strings.specs.declared.Span.{Span}
-use Rattle.cbor_strings.specs.declared.Span.the-variants.{Of as Found, Bad as NoSpan}
+use Rattle.cbor_strings.specs.declared.Content.{Content}
+use Rattle.cbor_strings.specs.declared.Content.the-variants.{Of as Found, Bad as NoContent}
 use Rattle.cbor_values.specs.declared.Item.{Item}
 use Rattle.cbor_values.specs.declared.Item.the-variants.{End, Bad as NoItem}
 use Rattle.cbor_keys.specs.Keys.{wantedKey}
 use Rattle.cbor_keys.specs.Fields.{nameField, numberAt}
-use Rattle.cbor_keys.specs.Steps.{afterItem, afterSpan, afterCount}
+use Rattle.cbor_keys.specs.Indexes.{tokenS, tokenV, tokenKid, tokenTid}
+use Rattle.cbor_keys.specs.Steps.{afterItem, afterContent, afterCount}
 use Rattle.cbor_keys.specs.declared.Names.the-variants.{Token as TokenKeys}
-use Rattle.token_back.specs.declared.Back.{Back}
-use Rattle.token_back.specs.declared.Back.the-variants.{Of as BackOf, Bad as NoBack}
+use Rattle.token_back.specs.declared.BackAt.{BackAt}
+use Rattle.token_back.specs.declared.BackParts.{BackParts}
+use Rattle.token_back.specs.declared.BackParts.the-variants.{Of, Bad}
 
 -- s: any defect of the tag is parse.cbor, its length too
-abbrev pub tagBad : ℕ → ℕ → Span
-tagBad kind at = NoSpan 4 at
+abbrev pub tagBad : ℕ → ℕ → Content
+tagBad kind at = NoContent 4 at
 
-unfoldable pub tagAt : List ℕ → ℕ → Span
-tagAt s at = afterSpan tagBad Found (readRun s at 2 32 32)
+unfoldable pub tagAt : List ℕ → ℕ → Content
+tagAt s at = afterContent tagBad Found (readRun s at 2 32 32)
 
-unfoldable pub tagField : List ℕ → ℕ → Span
-tagField s at = afterItem NoSpan (tagAt s) (wantedKey TokenKeys s at 2)
+unfoldable pub tagField : List ℕ → ℕ → Content
+tagField s at = afterItem NoContent (tagAt s) (wantedKey TokenKeys s at tokenS)
 
 -- v
 unfoldable pub versionThen : ℕ → ℕ → ℕ → Item
@@ -36,20 +39,23 @@ unfoldable pub versionAt : List ℕ → ℕ → Item
 versionAt s at = afterCount NoItem (versionThen at) (numberAt s 0xffffffffffffffff at)
 
 unfoldable pub versionField : List ℕ → ℕ → Item
-versionField s at = afterItem NoItem (versionAt s) (wantedKey TokenKeys s at 3)
+versionField s at = afterItem NoItem (versionAt s) (wantedKey TokenKeys s at tokenV)
 
 -- s, v, kid, tid, and nothing behind them
-unfoldable pub endThen : List ℕ → ℕ → ℕ → ℕ → ℕ → ℕ → Back
-endThen s tag kid kid-end tid tid-end = pick (eqb tid-end (length s)) (BackOf tag kid kid-end tid tid-end) (NoBack 4 tid-end)
+abbrev pub threeOf : Span → Span → Span → BackAt
+threeOf tag kid tid = record { tag = tag; kid = kid; tid = tid }
 
-unfoldable pub tidThen : List ℕ → ℕ → ℕ → ℕ → Back
-tidThen s tag kid kid-end = afterSpan NoBack (endThen s tag kid kid-end) (nameField TokenKeys s kid-end 5)
+unfoldable pub endThen : List ℕ → Span → Span → Span → BackParts
+endThen s tag kid tid = pick (eqb (tid .to) (length s)) (Of (threeOf tag kid tid)) (Bad 4 (tid .to))
 
-unfoldable pub kidThen : List ℕ → ℕ → ℕ → Back
-kidThen s tag at = afterSpan NoBack (tidThen s tag) (nameField TokenKeys s at 4)
+unfoldable pub tidThen : List ℕ → Span → Span → BackParts
+tidThen s tag kid = afterContent Bad (endThen s tag kid) (nameField TokenKeys s (kid .to) tokenTid)
 
-unfoldable pub vThen : List ℕ → ℕ → ℕ → Back
-vThen s tag at = afterItem NoBack (kidThen s tag) (versionField s at)
+unfoldable pub kidThen : List ℕ → Span → ℕ → BackParts
+kidThen s tag at = afterContent Bad (tidThen s tag) (nameField TokenKeys s at tokenKid)
 
-unfoldable pub backOf : List ℕ → ℕ → Back
-backOf s at = afterSpan NoBack (vThen s) (tagField s at)
+unfoldable pub vThen : List ℕ → Span → BackParts
+vThen s tag = afterItem Bad (kidThen s tag) (versionField s (tag .to))
+
+unfoldable pub backOf : List ℕ → ℕ → BackParts
+backOf s at = afterContent Bad (vThen s) (tagField s at)

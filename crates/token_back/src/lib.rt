@@ -1,36 +1,35 @@
 // The back of a token: tag, version, kid and tid, and nothing behind them. A defect carries document 01's number and
 // the place of the item at fault.
+use basis::Span;
 use cbor_heads::Count;
 use cbor_keys::Names;
-use cbor_strings::Span;
+use cbor_keys::index;
+use cbor_strings::Content;
 use cbor_values::Item;
 ghost use mathlib.Core.Path.{_≡_};
 ghost use Rattle.token_back.specs.Back.{tagField, versionField, backOf};
 
-// Where the 32 bytes of the tag begin, and where kid and tid lie.
-pub enum Back {
-    Of {
-        tag: usize,
-        kid: usize,
-        kid_end: usize,
-        tid: usize,
-        tid_end: usize,
-    },
-    Bad {
-        kind: u32,
-        at: usize,
-    },
+// Where tag, kid and tid lie.
+pub struct BackAt {
+    pub tag: Span,
+    pub kid: Span,
+    pub tid: Span,
+}
+
+pub enum BackParts {
+    Of { back: BackAt },
+    Bad { kind: u32, at: usize },
 }
 
 // The tag has no range of its own: a wrong length is a defect of form like any other.
-fn tag_field(s: &[u8], at: usize) -> Span
+fn tag_field(s: &[u8], at: usize) -> Content
     ensures { λ r. ⌜ r ≡ tagField (now (s .entry)) at ⌝ }
 {
-    match cbor_keys::wanted_key(s, at, Names::Token, 2) {
-        Item::Bad { kind, at: a } => Span::Bad { kind, at: a },
+    match cbor_keys::wanted_key(s, at, Names::Token, index::TOKEN_S) {
+        Item::Bad { kind, at: a } => Content::Bad { kind, at: a },
         Item::End { next: p } => match cbor_strings::read_run(s, p, 2, 32, 32) {
-            Span::Bad { kind: _, at: a } => Span::Bad { kind: 4, at: a },
-            Span::Of { from, to } => Span::Of { from, to },
+            Content::Bad { kind: _, at: a } => Content::Bad { kind: 4, at: a },
+            Content::Of { span } => Content::Of { span },
         },
     }
 }
@@ -38,7 +37,7 @@ fn tag_field(s: &[u8], at: usize) -> Span
 fn version_field(s: &[u8], at: usize) -> Item
     ensures { λ r. ⌜ r ≡ versionField (now (s .entry)) at ⌝ }
 {
-    match cbor_keys::wanted_key(s, at, Names::Token, 3) {
+    match cbor_keys::wanted_key(s, at, Names::Token, index::TOKEN_V) {
         Item::Bad { kind, at: a } => Item::Bad { kind, at: a },
         Item::End { next: p } => match cbor_heads::read_count(
             s,
@@ -59,36 +58,36 @@ fn version_field(s: &[u8], at: usize) -> Item
     }
 }
 
-pub fn read_back(s: &[u8], at: usize) -> Back
+pub fn read_back(s: &[u8], at: usize) -> BackParts
     ensures { λ r. ⌜ r ≡ backOf (now (s .entry)) at ⌝ }
 {
     match tag_field(s, at) {
-        Span::Bad { kind, at: a } => Back::Bad { kind, at: a },
-        Span::Of { from: tag, to: p } => match version_field(s, p) {
-            Item::Bad { kind, at: a } => Back::Bad { kind, at: a },
-            Item::End { next: q } => match cbor_keys::name_field(s, q, Names::Token, 4) {
-                Span::Bad { kind, at: a } => Back::Bad { kind, at: a },
-                Span::Of {
-                    from: kid,
-                    to: kid_end,
-                } => match cbor_keys::name_field(s, kid_end, Names::Token, 5) {
-                    Span::Bad { kind, at: a } => Back::Bad { kind, at: a },
-                    Span::Of {
-                        from: tid,
-                        to: tid_end,
-                    } => {
-                        if tid_end == s.len() {
-                            return Back::Of {
-                                tag,
-                                kid,
-                                kid_end,
-                                tid,
-                                tid_end,
+        Content::Bad { kind, at: a } => BackParts::Bad { kind, at: a },
+        Content::Of { span: tag } => match version_field(s, tag.to) {
+            Item::Bad { kind, at: a } => BackParts::Bad { kind, at: a },
+            Item::End { next: q } => match cbor_keys::name_field(
+                s,
+                q,
+                Names::Token,
+                index::TOKEN_KID,
+            ) {
+                Content::Bad { kind, at: a } => BackParts::Bad { kind, at: a },
+                Content::Of { span: kid } => match cbor_keys::name_field(
+                    s,
+                    kid.to,
+                    Names::Token,
+                    index::TOKEN_TID,
+                ) {
+                    Content::Bad { kind, at: a } => BackParts::Bad { kind, at: a },
+                    Content::Of { span: tid } => {
+                        if tid.to == s.len() {
+                            return BackParts::Of {
+                                back: BackAt { tag, kid, tid },
                             };
                         }
-                        Back::Bad {
+                        BackParts::Bad {
                             kind: 4,
-                            at: tid_end,
+                            at: tid.to,
                         }
                     }
                 },

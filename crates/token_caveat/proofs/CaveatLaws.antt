@@ -18,8 +18,8 @@ use Rattle.cbor_keys.specs.declared.Key.the-variants.{Of as Known}
 use Rattle.cbor_keys.proofs.KeyLaws.{key-written, key-read, named-read, index-below, wanted-written, wanted-read}
 use Rattle.cbor_keys.proofs.StepLaws.{item-went, key-went, count-went}
 use Rattle.token_caveat.specs.Caveats.{Caveat, exp, nbf, aud, method, path-prefix, ip-cidr, bytes-le, rate, tenant, amnesia, gov-policy-digest, custom, tOf, vOf, encodeCaveat, GoodCaveat}
-use Rattle.token_caveat.specs.Reading.{valueAt, vThen, tThen, mapThen, caveatOf}
-use Rattle.token_caveat_values.specs.declared.Caveat.{Caveat as Part}
+use Rattle.token_caveat.specs.Reading.{valueAt, tNext, tValueThen, caveatMap, caveatOf}
+use Rattle.token_caveat_values.specs.declared.CaveatAt.{CaveatAt}
 use Rattle.token_caveat_values.specs.declared.CaveatParts.the-variants.{Of, Bad}
 use Rattle.token_caveat.proofs.Holds.{Holds}
 use Rattle.token_caveat.proofs.ValuesWritten.{indexOf, partAt, value-written}
@@ -48,7 +48,7 @@ named (gov-policy-digest d) = record { found = refl; known = omega arith; short 
 named (custom ns name value) = record { found = refl; known = omega arith; short = omega arith; named = refl }
 
 -- the parts of a caveat that stands at the front
-abbrev pub partOf : Caveat → Part
+abbrev pub partOf : Caveat → CaveatAt
 partOf c = partAt (0 + length (head 5 2) + length (text (ascii "t")) + length (text (ascii (tOf c))) + length (text (ascii "v"))) c
 
 -- what a reading finds there
@@ -57,7 +57,7 @@ pub record Written (s : List ℕ) (c : Caveat) : Type 0 where
   pub holds : Holds s c (partOf c)
 
 pub caveat-written : (c : Caveat) → GoodCaveat c → (s rest : List ℕ) → s ≡ encodeCaveat c ++ rest → Written s c
-unfolding encodeCaveat caveatOf mapThen tThen vThen keysOf indexFrom sameOf
+unfolding encodeCaveat caveatOf caveatMap tValueThen tNext keysOf indexFrom sameOf
 caveat-written c g s rest e =
     let h = head 5 2 in
     let kt = text (ascii "t") in
@@ -86,17 +86,17 @@ caveat-written c g s rest e =
     }
 
 -- a caveat within limits stands at the front and ends at `next`
-pub record IsCaveat (s : List ℕ) (part : Part) (next : ℕ) : Type 0 where
+pub record IsCaveat (s : List ℕ) (part : CaveatAt) (next : ℕ) : Type 0 where
   pub tree : Caveat
   pub good : GoodCaveat tree
   pub long : length (encodeCaveat tree) ≡ next
   pub there : s ≡ encodeCaveat tree ++ drop next s
   pub holds : Holds s tree part
 
-ended : (s : List ℕ) {part other : Part} {next n : ℕ} → caveatOf s ≡ Of part next → caveatOf s ≡ Of other n → n ≡ next
+ended : (s : List ℕ) {part other : CaveatAt} {next n : ℕ} → caveatOf s ≡ Of part next → caveatOf s ≡ Of other n → n ≡ next
 ended s {part} {other} {next} {n} p q = let e : Of other n ≡ Of part next = sym q ∙ p in cc
 
-pub never : (part : Part) (next kind at : ℕ) → Bad kind at ≡ Of part next → ⊥
+pub never : (part : CaveatAt) (next kind at : ℕ) → Bad kind at ≡ Of part next → ⊥
 never part next kind at e = let z : _≡_ {A = ℕ} 0 1 = cc in omega arith
 
 -- the index of t is that of one of its twelve names
@@ -105,7 +105,7 @@ unfolding keysOf
 t-below s b at e = let k = key-read T s b at e in omega (arith, index-below (keysOf T) 0 (k .content) (k .indexed) (k .known))
 
 -- the tree, from the value's
-module _ (s : List ℕ) (c : Caveat) (part : Part) (next p q r v : ℕ) where
+module _ (s : List ℕ) (c : Caveat) (part : CaveatAt) (next p q r v : ℕ) where
   joined : drop 0 s ≡ head 5 2 ++ drop p s → drop p s ≡ text (ascii "t") ++ drop q s → drop q s ≡ text (ascii (tOf c)) ++ drop r s
       → drop r s ≡ text (ascii "v") ++ drop v s → drop v s ≡ vOf c ++ drop next s → s ≡ encodeCaveat c ++ drop next s
   unfolding encodeCaveat
@@ -113,14 +113,14 @@ module _ (s : List ℕ) (c : Caveat) (part : Part) (next p q r v : ℕ) where
       let d = on (head 5 2) d0 (on (text (ascii "t")) d1 (on (text (ascii (tOf c))) d2 (on (text (ascii "v")) d3 d4))) in
       simp append-assoc (simp append-assoc at d)
 
-pub caveat-read : (s : List ℕ) → IsBytes s → {part : Part} {next : ℕ} → caveatOf s ≡ Of part next → IsCaveat s part next
-unfolding caveatOf mapThen tThen vThen keysOf
+pub caveat-read : (s : List ℕ) → IsBytes s → {part : CaveatAt} {next : ℕ} → caveatOf s ≡ Of part next → IsCaveat s part next
+unfolding caveatOf caveatMap tValueThen tNext keysOf
 caveat-read s b {part} {next} e =
-    let m = count-went (never part next) (mapThen s) (readCount s 0 5 2 2 6) e in
+    let m = count-went (never part next) (caveatMap s) (readCount s 0 5 2 2 6) e in
     let c = counted s 0 5 2 2 6 (m .was) in
     let n : m .n ≡ 2 = omega (arith, c .enough, c .few) in
-    let k = item-went (never part next) (tThen s) (wantedKey CaveatKeys s (m .next) 0) (m .goes) in
-    let t = key-went (never part next) (vThen s) (keyAt T s (k .next)) (k .goes) in
+    let k = item-went (never part next) (tValueThen s) (wantedKey CaveatKeys s (m .next) 0) (m .goes) in
+    let t = key-went (never part next) (tNext s) (keyAt T s (k .next)) (k .goes) in
     let v = item-went (never part next) (valueAt s (t .index)) (wantedKey CaveatKeys s (t .next) 1) (t .goes) in
     let l = t-below s b (k .next) (t .was) in
     let x = value-is-read s b (v .next) (t .index) l (v .goes) in

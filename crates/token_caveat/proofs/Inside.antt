@@ -1,10 +1,12 @@
 -- Every place that the reading of a caveat answers, where it ends and where a defect is, lies inside the slice: step by step, by
--- keys' Inside.
+-- Inside of `cbor_keys`.
 use mathlib.Core.List.{List}
-use Prim.Native.Nat.{ℕ, _-_, _≤_}
+use Prim.Native.Nat.{ℕ, _≤_}
 use native.Mathlib.Omega.{arith}
 use lib.Dec.{eqb}
-use lib.ListN.{length, take, drop}
+use lib.ListN.{length}
+use Rattle.basis.specs.Basis.{fromTo, between}
+use Rattle.basis.specs.declared.Span.{Span}
 use Rattle.basis.proofs.Picks.{either}
 use Rattle.cbor_heads.specs.Counts.{readCount}
 use Rattle.cbor_strings.specs.Strings.{readRun, readString}
@@ -19,13 +21,17 @@ use Rattle.token_cidr.specs.declared.Cidr.the-variants.{Of as CidrOf, Bad as No
 use Rattle.cbor_keys.specs.Keys.{keyAt, wantedKey}
 use Rattle.cbor_keys.specs.Fields.{nameField, numberAt, numberField}
 use Rattle.cbor_keys.specs.declared.Names.the-variants.{Caveat as CaveatKeys, T, Rate as RateKeys, Custom as CustomKeys}
-use Rattle.cbor_keys.proofs.Inside.{item-step, span-step, count-step, key-step, key-in, wanted-in, name-field-in, number-field-in}
+use Rattle.cbor_keys.specs.Indexes.{ratePerS, rateBurst, customNs, customCbor, customName, caveatT, caveatV}
+use Rattle.cbor_keys.specs.Indexes.{tExp, tNbf, tAud, tMethod, tPathPrefix, tIpCidr, tBytesLe, tRate, tTenant, tAmnesia, tGovPolicyDigest, tCustom}
+use Rattle.cbor_keys.proofs.Inside.{item-step, content-step, count-step, key-step, key-in, wanted-in, name-field-in, number-field-in}
 use Rattle.token_scope.specs.Methods.{methodsOf}
 use Rattle.token_scope.proofs.Inside.{methods-in, methods-step}
 use Rattle.token_caveat_values.specs.Values.{numberThen, numberValue, textThen, textValue, digestBad, digestThen, digestValue, methodThen, methodValue}
 use Rattle.token_caveat_values.specs.Values.{cidrBy, cidrThen, cidrValue, rateThen, burstThen, rateMap, rateValue, flagThen, amnesiaValue}
 use Rattle.token_caveat_values.specs.Values.{nameThen, customEnd, customThen, nsThen, customMap, customValue}
-use Rattle.token_caveat.specs.Reading.{valueAt, vThen, tThen, mapThen, caveatOf}
+use Rattle.token_caveat.specs.Reading.{valueAt, tNext, tValueThen, caveatMap, caveatOf}
+use Rattle.token_caveat_values.specs.declared.CaveatAt.{CaveatAt}
+use Rattle.token_caveat_values.specs.declared.CaveatAt.the-variants.{Exp, Nbf, BytesLe, Aud, PathPrefix, Tenant}
 use Rattle.token_caveat_values.specs.declared.CaveatParts.{CaveatParts}
 use Rattle.token_caveat_values.specs.declared.CaveatParts.the-variants.{Of, Bad}
 
@@ -33,21 +39,25 @@ abbrev pub CaveatIn : ℕ → CaveatParts → Type 0
 CaveatIn size (Of part next) = next ≤ size
 CaveatIn size (Bad kind at) = at ≤ size
 
--- what holds of every value's reading holds of the one that t picks
-pub value-ways : (P : CaveatParts → Type 0) (s : List ℕ) (t at : ℕ) → ((t : ℕ) (class : Class) (high : ℕ) → P (textValue s t class high at)) → P (methodValue s at)
-    → P (cidrValue s at) → P (rateValue s at) → P (amnesiaValue s at) → P (digestValue s at) → P (customValue s at) → P (numberValue s t at) → P (valueAt s t at)
+-- what holds of every value's reading, and of an unknown t's defect, holds of the one that t picks
+pub value-ways : (P : CaveatParts → Type 0) (s : List ℕ) (t at : ℕ) → ((make : ℕ → CaveatAt) → P (numberValue make s at))
+    → ((make : Span → CaveatAt) (class : Class) (high : ℕ) → P (textValue make class high s at)) → P (methodValue s at) → P (cidrValue s at) → P (rateValue s at)
+    → P (amnesiaValue s at) → P (digestValue s at) → P (customValue s at) → P (Bad 6 at) → P (valueAt s t at)
 unfolding valueAt
-value-ways P s t at text method cidr rate amnesia digest custom number =
-    either P (eqb t 2) (text 2 Printable 128)
-    (either P (eqb t 3) method
-    (either P (eqb t 4) (text 4 Path 256)
-    (either P (eqb t 5) cidr
-    (either P (eqb t 7) rate
-    (either P (eqb t 8) (text 8 Name 64)
-    (either P (eqb t 9) amnesia
-    (either P (eqb t 10) digest
-    (either P (eqb t 11) custom
-    number))))))))
+value-ways P s t at number text method cidr rate amnesia digest custom unknown =
+    either P (eqb t tExp) (number Exp)
+    (either P (eqb t tNbf) (number Nbf)
+    (either P (eqb t tAud) (text Aud Printable 128)
+    (either P (eqb t tMethod) method
+    (either P (eqb t tPathPrefix) (text PathPrefix Path 256)
+    (either P (eqb t tIpCidr) cidr
+    (either P (eqb t tBytesLe) (number BytesLe)
+    (either P (eqb t tRate) rate
+    (either P (eqb t tTenant) (text Tenant Name 64)
+    (either P (eqb t tAmnesia) amnesia
+    (either P (eqb t tGovPolicyDigest) digest
+    (either P (eqb t tCustom) custom
+    unknown)))))))))))
 
 module _ (s : List ℕ) where
   abbrev size : ℕ
@@ -59,31 +69,31 @@ module _ (s : List ℕ) where
   defect : (kind at : ℕ) → at ≤ size → In (Bad kind at)
   defect kind at h = h
 
-  number-value-in : (t at : ℕ) → at ≤ size → In (numberValue s t at)
+  number-value-in : (make : ℕ → CaveatAt) (at : ℕ) → at ≤ size → In (numberValue make s at)
   unfolding numberValue
-  number-value-in t at h = count-step In size Bad defect (numberThen t) (λ n next g. g) (numberAt s 0xffffffffffffffff at) (count-in s at 0 0 0xffffffffffffffff 5 h)
+  number-value-in make at h = count-step In size Bad defect (numberThen make) (λ n next g. g) (numberAt s 0xffffffffffffffff at) (count-in s at 0 0 0xffffffffffffffff 5 h)
 
-  text-value-in : (t : ℕ) (class : Class) (high at : ℕ) → at ≤ size → In (textValue s t class high at)
+  text-value-in : (make : Span → CaveatAt) (class : Class) (high at : ℕ) → at ≤ size → In (textValue make class high s at)
   unfolding textValue
-  text-value-in t class high at h = span-step In size Bad defect (textThen t) (λ from to f g. g) (readString s at class 1 high) (string-in s at class 1 high h)
+  text-value-in make class high at h = content-step In size Bad defect (textThen make) (λ part f g. g) (readString s at class 1 high) (string-in s at class 1 high h)
 
   digest-value-in : (at : ℕ) → at ≤ size → In (digestValue s at)
   unfolding digestValue
-  digest-value-in at h = span-step In size digestBad defect digestThen (λ from to f g. g) (readString s at Hex 64 64) (string-in s at Hex 64 64 h)
+  digest-value-in at h = content-step In size digestBad defect digestThen (λ part f g. g) (readString s at Hex 64 64) (string-in s at Hex 64 64 h)
 
   method-value-in : (at : ℕ) → at ≤ size → In (methodValue s at)
   unfolding methodValue
-  method-value-in at h = methods-step In size Bad defect methodThen (λ count from to f g. g) (methodsOf s at) (methods-in s at h)
+  method-value-in at h = methods-step In size Bad defect methodThen (λ list f g. g) (methodsOf s at) (methods-in s at h)
 
-  cidr-by : (from to : ℕ) → from ≤ size → to ≤ size → (c : Cidr) → In (cidrBy from to c)
+  cidr-by : (part : Span) → part .from ≤ size → part .to ≤ size → (c : Cidr) → In (cidrBy part c)
   unfolding cidrBy
-  cidr-by from to f g NoCidr = f
-  cidr-by from to f g (CidrOf a b c d n) = g
+  cidr-by part f g NoCidr = f
+  cidr-by part f g (CidrOf network) = g
 
   cidr-value-in : (at : ℕ) → at ≤ size → In (cidrValue s at)
   unfolding cidrValue
   cidr-value-in at h =
-      span-step In size Bad defect (cidrThen s) (λ from to f g. cidr-by from to f g (cidrOf (take (to - from) (drop from s))))
+      content-step In size Bad defect (cidrThen s) (λ part f g. cidr-by part f g (cidrOf (between s part)))
       (readRun s at 3 0 0xffffffffffffffff) (run-in s at 3 0 0xffffffffffffffff h)
 
   amnesia-value-in : (at : ℕ) → at ≤ size → In (amnesiaValue s at)
@@ -103,22 +113,22 @@ module _ (s : List ℕ) where
   unfolding rateValue
   rate-value-in at h = count-step In size Bad defect (rateMap s) rate-map-in (readCount s at 5 2 2 6) (count-in s at 5 2 2 6 h)
 
-  custom-end-in : (ns ns-end value at : ℕ) → at ≤ size → In (customEnd s ns ns-end value at)
+  custom-end-in : (ns : Span) (value at : ℕ) → at ≤ size → In (customEnd s ns value at)
   unfolding customEnd
-  custom-end-in ns ns-end value at h =
-      span-step In size Bad defect (nameThen ns ns-end value at) (λ from to f g. g) (nameField CustomKeys s at 2) (name-field-in CustomKeys s at 2 h)
+  custom-end-in ns value at h =
+      content-step In size Bad defect (nameThen ns (fromTo value at)) (λ part f g. g) (nameField CustomKeys s at 2) (name-field-in CustomKeys s at 2 h)
 
-  custom-then-in : (ns ns-end at : ℕ) → at ≤ size → In (customThen s ns ns-end at)
+  custom-then-in : (ns : Span) (at : ℕ) → at ≤ size → In (customThen s ns at)
   unfolding customThen
-  custom-then-in ns ns-end at h = item-step In size Bad defect (customEnd s ns ns-end at) (custom-end-in ns ns-end at) (valueOf 4 s at) (value-in 4 s at h)
+  custom-then-in ns at h = item-step In size Bad defect (customEnd s ns at) (custom-end-in ns at) (valueOf 4 s at) (value-in 4 s at h)
 
-  ns-in : (ns at : ℕ) → ns ≤ size → at ≤ size → In (nsThen s ns at)
+  ns-in : (ns : Span) → ns .from ≤ size → ns .to ≤ size → In (nsThen s ns)
   unfolding nsThen
-  ns-in ns at f h = item-step In size Bad defect (customThen s ns at) (custom-then-in ns at) (wantedKey CustomKeys s at 1) (wanted-in CustomKeys s at 1 h)
+  ns-in ns f h = item-step In size Bad defect (customThen s ns) (custom-then-in ns) (wantedKey CustomKeys s (ns .to) customCbor) (wanted-in CustomKeys s (ns .to) customCbor h)
 
   custom-map-in : (n at : ℕ) → at ≤ size → In (customMap s n at)
   unfolding customMap
-  custom-map-in n at h = span-step In size Bad defect (nsThen s) ns-in (nameField CustomKeys s at 0) (name-field-in CustomKeys s at 0 h)
+  custom-map-in n at h = content-step In size Bad defect (nsThen s) ns-in (nameField CustomKeys s at 0) (name-field-in CustomKeys s at 0 h)
 
   custom-value-in : (at : ℕ) → at ≤ size → In (customValue s at)
   unfolding customValue
@@ -126,22 +136,22 @@ module _ (s : List ℕ) where
 
   value-at-in : (t at : ℕ) → at ≤ size → In (valueAt s t at)
   value-at-in t at h =
-      value-ways In s t at (λ t class high. text-value-in t class high at h) (method-value-in at h) (cidr-value-in at h) (rate-value-in at h) (amnesia-value-in at h)
-      (digest-value-in at h) (custom-value-in at h) (number-value-in t at h)
+      value-ways In s t at (λ make. number-value-in make at h) (λ make class high. text-value-in make class high at h) (method-value-in at h) (cidr-value-in at h)
+      (rate-value-in at h) (amnesia-value-in at h) (digest-value-in at h) (custom-value-in at h) h
 
-  v-in : (t at : ℕ) → at ≤ size → In (vThen s t at)
-  unfolding vThen
+  v-in : (t at : ℕ) → at ≤ size → In (tNext s t at)
+  unfolding tNext
   v-in t at h = item-step In size Bad defect (valueAt s t) (value-at-in t) (wantedKey CaveatKeys s at 1) (wanted-in CaveatKeys s at 1 h)
 
-  t-in : (at : ℕ) → at ≤ size → In (tThen s at)
-  unfolding tThen
-  t-in at h = key-step In size Bad defect (vThen s) v-in (keyAt T s at) (key-in T s at h)
+  t-in : (at : ℕ) → at ≤ size → In (tValueThen s at)
+  unfolding tValueThen
+  t-in at h = key-step In size Bad defect (tNext s) v-in (keyAt T s at) (key-in T s at h)
 
-  map-in : (n at : ℕ) → at ≤ size → In (mapThen s n at)
-  unfolding mapThen
-  map-in n at h = item-step In size Bad defect (tThen s) t-in (wantedKey CaveatKeys s at 0) (wanted-in CaveatKeys s at 0 h)
+  map-in : (n at : ℕ) → at ≤ size → In (caveatMap s n at)
+  unfolding caveatMap
+  map-in n at h = item-step In size Bad defect (tValueThen s) t-in (wantedKey CaveatKeys s at 0) (wanted-in CaveatKeys s at 0 h)
 
 pub caveat-in : (s : List ℕ) → CaveatIn (length s) (caveatOf s)
 unfolding caveatOf
 caveat-in s =
-    count-step (CaveatIn (length s)) (length s) Bad (defect s) (mapThen s) (map-in s) (readCount s 0 5 2 2 6) (count-in s 0 5 2 2 6 (omega arith))
+    count-step (CaveatIn (length s)) (length s) Bad (defect s) (caveatMap s) (map-in s) (readCount s 0 5 2 2 6) (count-in s 0 5 2 2 6 (omega arith))

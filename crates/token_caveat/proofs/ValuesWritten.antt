@@ -6,7 +6,9 @@ use Prim.Native.Nat.{ℕ, _+_, _-_, _/_, _%_, _^_, _≤_, _<_}
 use native.Mathlib.Omega.{arith}
 use lib.ListN.{length, drop, length-append}
 use lib.Dec.{ltb}
-use Rattle.basis.specs.Basis.{pick, ascii}
+use Rattle.basis.specs.Basis.{pick, ascii, fromTo, between}
+use Rattle.basis.specs.declared.Span.{Span}
+use Rattle.cbor_values.specs.Lists.{listOf}
 use Rattle.basis.specs.Same.{sameOf}
 use Rattle.basis.proofs.Parts.{past, ends, lies}
 use Rattle.cbor_heads.specs.Heads.{head}
@@ -15,7 +17,8 @@ use Rattle.cbor_heads.proofs.CountLaws.{head-there, count}
 use Rattle.cbor_strings.proofs.StringLaws.{read-run-written}
 use Rattle.cbor_values.specs.Trees.{Value, encode, Good}
 use Rattle.cbor_values.proofs.TreeReads.{read-encoded}
-use Rattle.token_cidr.specs.Prefixes.{Prefix, decimal, textOf, Good as GoodPrefix}
+use Rattle.token_cidr.specs.Prefixes.{Prefix, decimal, prefixText, GoodPrefix}
+use Rattle.token_cidr.specs.Reading.{netOf}
 use Rattle.token_cidr.proofs.TextLaws.{text-reads}
 use Rattle.cbor_keys.specs.Keys.{keysOf, indexFrom}
 use Rattle.cbor_keys.specs.Maps.{text, entry, GoodText}
@@ -26,11 +29,11 @@ use Rattle.cbor_keys.proofs.TextLaws.{text-written, text-held}
 use Rattle.token_scope.specs.Scopes.{encodeMethods, GoodMethods}
 use Rattle.token_scope.proofs.MethodLaws.{methods-written, methods-lie}
 use Rattle.token_caveat.specs.Caveats.{Caveat, exp, nbf, aud, method, path-prefix, ip-cidr, bytes-le, rate, tenant, amnesia, gov-policy-digest, custom, vOf, GoodName, GoodCaveat}
-use Rattle.token_caveat_values.specs.Values.{numbered, worded, numberValue, textValue, digestValue, methodValue, cidrBy, cidrValue, burstThen, rateMap, rateValue, amnesiaValue}
-use Rattle.token_caveat_values.specs.Values.{customEnd, customThen, nsThen, customMap, customValue}
+use Rattle.token_caveat_values.specs.Values.{numberValue, textValue, digestValue, methodValue, cidrBy, cidrValue, burstThen, rateMap, rateValue, amnesiaValue}
+use Rattle.token_caveat_values.specs.Values.{customOf, customEnd, customThen, nsThen, customMap, customValue}
 use Rattle.token_caveat.specs.Reading.{valueAt}
-use Rattle.token_caveat_values.specs.declared.Caveat.{Caveat as Part}
-use Rattle.token_caveat_values.specs.declared.Caveat.the-variants.{Exp, Nbf, Aud, Method, PathPrefix, IpCidr, BytesLe, Rate, Tenant, Amnesia, GovPolicyDigest, Custom}
+use Rattle.token_caveat_values.specs.declared.CaveatAt.{CaveatAt}
+use Rattle.token_caveat_values.specs.declared.CaveatAt.the-variants.{Exp, Nbf, Aud, Method, PathPrefix, IpCidr, BytesLe, Rate, Tenant, Amnesia, GovPolicyDigest, Custom}
 use Rattle.token_caveat_values.specs.declared.CaveatParts.the-variants.{Of}
 use Rattle.token_caveat.proofs.Holds.{Holds, exp-is, nbf-is, aud-is, method-is, path-is, cidr-is, bytes-is, rate-is, tenant-is, amnesia-is, digest-is, custom-is}
 
@@ -60,8 +63,8 @@ decimal-short n = by (ltb n 10) (ltb n 100)
     by false false = omega arith
 
 -- "255.255.255.255/32" is the longest
-cidr-short : (p : Prefix) → length (textOf p) ≤ 19
-unfolding textOf
+cidr-short : (p : Prefix) → length (prefixText p) ≤ 19
+unfolding prefixText
 cidr-short p =
     let a = decimal-short (p .a) in
     let b = decimal-short (p .b) in
@@ -74,28 +77,30 @@ cidr-short p =
 abbrev contentFrom : ℕ → List ℕ → ℕ
 contentFrom at x = at + length (head 3 (length x))
 
-abbrev contentTo : ℕ → List ℕ → ℕ
-contentTo at x = at + length (text x)
+abbrev pub contentAt : ℕ → List ℕ → Span
+contentAt at x = fromTo (contentFrom at x) (at + length (text x))
 
 -- the parts of a caveat whose value stands at `at`, which depend on nothing else
-unfoldable pub partAt : ℕ → Caveat → Part
+unfoldable pub partAt : ℕ → Caveat → CaveatAt
 partAt at (exp n) = Exp n
 partAt at (nbf n) = Nbf n
-partAt at (aud a) = Aud (contentFrom at a) (contentTo at a)
-partAt at (method ms) = Method (length ms) (at + length (head 4 (length ms))) (at + length (encodeMethods ms))
-partAt at (path-prefix p) = PathPrefix (contentFrom at p) (contentTo at p)
-partAt at (ip-cidr p) = IpCidr (p .a) (p .b) (p .c) (p .d) (p .size)
+partAt at (aud a) = Aud (contentAt at a)
+partAt at (method ms) = Method (listOf (length ms) (fromTo (at + length (head 4 (length ms))) (at + length (encodeMethods ms))))
+partAt at (path-prefix p) = PathPrefix (contentAt at p)
+partAt at (ip-cidr p) = IpCidr (netOf (p .a) (p .b) (p .c) (p .d) (p .size))
 partAt at (bytes-le n) = BytesLe n
 partAt at (rate per-s burst) = Rate per-s burst
-partAt at (tenant t) = Tenant (contentFrom at t) (contentTo at t)
+partAt at (tenant t) = Tenant (contentAt at t)
 partAt at (amnesia b) = Amnesia b
-partAt at (gov-policy-digest d) = GovPolicyDigest (contentFrom at d) (contentTo at d)
+partAt at (gov-policy-digest d) = GovPolicyDigest (contentAt at d)
 partAt at (custom ns name value) =
     let a1 = at + length (head 5 3) in
     let a2 = a1 + length (entry "ns" (text ns)) in
     let a3 = a2 + length (text (ascii "cbor")) in
     let a4 = a3 + length (encode value) in
-    Custom (contentFrom (a1 + length (text (ascii "ns"))) ns) a2 a3 a4 (contentFrom (a4 + length (text (ascii "name"))) name) (a4 + length (entry "name" (text name)))
+    let a5 = a4 + length (entry "name" (text name)) in
+    Custom
+    (customOf (fromTo (contentFrom (a1 + length (text (ascii "ns"))) ns) a2) (fromTo a3 a4) (fromTo (contentFrom (a4 + length (text (ascii "name"))) name) a5))
 
 pub record Found (s : List ℕ) (at : ℕ) (c : Caveat) : Type 0 where
   pub answer : valueAt s (indexOf c) at ≡ Of (partAt at c) (at + length (vOf c))
@@ -106,65 +111,61 @@ module _ (s rest : List ℕ) (at : ℕ) where
   Value-found c = drop at s ≡ vOf c ++ rest → Found s at c
 
   exp-written : (n : ℕ) → n < 2 ^ 64 → Value-found (exp n)
-  unfolding vOf indexOf partAt valueAt numberValue numbered
+  unfolding vOf indexOf partAt valueAt numberValue
   exp-written n g e = record { answer = rw (number-written s rest at n 0xffffffffffffffff (omega arith) g e); holds = exp-is n }
 
   nbf-written : (n : ℕ) → n < 2 ^ 64 → Value-found (nbf n)
-  unfolding vOf indexOf partAt valueAt numberValue numbered
+  unfolding vOf indexOf partAt valueAt numberValue
   nbf-written n g e = record { answer = rw (number-written s rest at n 0xffffffffffffffff (omega arith) g e); holds = nbf-is n }
 
   bytes-written : (n : ℕ) → n < 2 ^ 64 → Value-found (bytes-le n)
-  unfolding vOf indexOf partAt valueAt numberValue numbered
+  unfolding vOf indexOf partAt valueAt numberValue
   bytes-written n g e = record { answer = rw (number-written s rest at n 0xffffffffffffffff (omega arith) g e); holds = bytes-is n }
 
   module _ (x : List ℕ) where
-    abbrev from : ℕ
-    from = at + length (head 3 (length x))
-
-    abbrev to : ℕ
-    to = at + length (text x)
+    abbrev part : Span
+    part = contentAt at x
 
     aud-written : GoodText Printable 1 128 x → Value-found (aud x)
-    unfolding vOf indexOf partAt valueAt textValue worded
+    unfolding vOf indexOf partAt valueAt textValue
     aud-written g e =
         let l = g .most in
-        record { answer = rw (text-written Printable 1 128 x g (omega arith) s rest at e); holds = aud-is x from to (text-held x (omega arith) s rest at e) }
+        record { answer = rw (text-written Printable 1 128 x g (omega arith) s rest at e); holds = aud-is x part (text-held x (omega arith) s rest at e) }
 
     path-written : GoodText Path 1 256 x → Value-found (path-prefix x)
-    unfolding vOf indexOf partAt valueAt textValue worded
+    unfolding vOf indexOf partAt valueAt textValue
     path-written g e =
         let l = g .most in
-        record { answer = rw (text-written Path 1 256 x g (omega arith) s rest at e); holds = path-is x from to (text-held x (omega arith) s rest at e) }
+        record { answer = rw (text-written Path 1 256 x g (omega arith) s rest at e); holds = path-is x part (text-held x (omega arith) s rest at e) }
 
     tenant-written : GoodName x → Value-found (tenant x)
-    unfolding vOf indexOf partAt valueAt textValue worded
+    unfolding vOf indexOf partAt valueAt textValue
     tenant-written g e =
         let l = g .most in
-        record { answer = rw (text-written Name 1 64 x g (omega arith) s rest at e); holds = tenant-is x from to (text-held x (omega arith) s rest at e) }
+        record { answer = rw (text-written Name 1 64 x g (omega arith) s rest at e); holds = tenant-is x part (text-held x (omega arith) s rest at e) }
 
     digest-written : GoodText Hex 64 64 x → Value-found (gov-policy-digest x)
     unfolding vOf indexOf partAt valueAt digestValue
     digest-written g e =
         let l = g .most in
-        record { answer = rw (text-written Hex 64 64 x g (omega arith) s rest at e); holds = digest-is x from to (text-held x (omega arith) s rest at e) }
+        record { answer = rw (text-written Hex 64 64 x g (omega arith) s rest at e); holds = digest-is x part (text-held x (omega arith) s rest at e) }
 
   method-written : (ms : List (List ℕ)) → GoodMethods ms → Value-found (method ms)
   unfolding vOf indexOf partAt valueAt methodValue
   method-written ms g e =
-      let f = at + length (head 4 (length ms)) in
-      let t = at + length (encodeMethods ms) in
-      record { answer = rw (methods-written ms g s rest at e); holds = method-is ms (length ms) f t refl (methods-lie ms s rest at e) }
+      let list = listOf (length ms) (fromTo (at + length (head 4 (length ms))) (at + length (encodeMethods ms))) in
+      record { answer = rw (methods-written ms g s rest at e); holds = method-is ms list refl (methods-lie ms s rest at e) }
 
   cidr-written : (p : Prefix) → GoodPrefix p → Value-found (ip-cidr p)
   unfolding vOf indexOf partAt valueAt cidrValue cidrBy
   cidr-written p g e =
-      let x = textOf p in
+      let x = prefixText p in
       let l : length x < 2 ^ 64 = omega (arith, cidr-short p) in
       let f = at + length (head 3 (length x)) in
       record {
         answer =
             rw (read-run-written s x rest at 3 e l 0 0xffffffffffffffff (omega arith) (omega arith), ends (head 3 (length x)) x at, text-held x l s rest at e, text-reads p g);
-        holds = cidr-is (p .a) (p .b) (p .c) (p .d) (p .size);
+        holds = cidr-is (netOf (p .a) (p .b) (p .c) (p .d) (p .size));
       }
 
   amnesia-written : (b : Bool) → Value-found (amnesia b)
@@ -221,11 +222,11 @@ module _ (s rest : List ℕ) (at : ℕ) where
       let q = wanted-written CustomKeys (ascii "cbor") (omega arith) 1 refl (omega arith) s (v ++ (z ++ rest)) a2 d2 in
       let r = read-encoded value 4 gv s (z ++ rest) a3 d3 in
       let t = name-field-written CustomKeys 2 (omega arith) (ascii "name") (omega arith) refl s rest a4 name gn d4 in
-      let part = Custom f1 a2 a3 a4 f4 a5 in
+      let parts = customOf (fromTo f1 a2) (fromTo a3 a4) (fromTo f4 a5) in
       record {
-        answer = rw (c, p, q, r, t) (ap (Of part) (simp length-append (omega arith)));
+        answer = rw (c, p, q, r, t) (ap (Of (Custom parts)) (simp length-append (omega arith)));
         holds =
-            custom-is ns name value f1 a2 a3 a4 f4 a5 (name-lies s ks ns (k ++ (v ++ (z ++ rest))) a1 (omega arith) d1) (lies s v (z ++ rest) a3 d3)
+            custom-is ns name value parts (name-lies s ks ns (k ++ (v ++ (z ++ rest))) a1 (omega arith) d1) (lies s v (z ++ rest) a3 d3)
             (name-lies s kn name rest a4 (omega arith) d4);
       }
 

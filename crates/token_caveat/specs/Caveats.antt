@@ -8,7 +8,7 @@ use Rattle.basis.specs.Basis.{ascii}
 use Rattle.cbor_heads.specs.Heads.{head}
 use Rattle.cbor_strings.specs.declared.Class.the-variants.{Name, Printable, Hex}
 use Rattle.cbor_values.specs.Trees.{Value, encode, Good}
-use Rattle.token_cidr.specs.Prefixes.{Prefix, textOf, Good as GoodPrefix}
+use Rattle.token_cidr.specs.Prefixes.{Prefix, prefixText, GoodPrefix}
 use Rattle.cbor_keys.specs.Maps.{text, entry, GoodText}
 use Rattle.token_scope.specs.Scopes.{encodeMethods, GoodMethods, GoodPath, Number64}
 
@@ -52,7 +52,7 @@ vOf (nbf n) = head 0 n
 vOf (aud a) = text a
 vOf (method ms) = encodeMethods ms
 vOf (path-prefix p) = text p
-vOf (ip-cidr p) = text (textOf p)
+vOf (ip-cidr p) = text (prefixText p)
 vOf (bytes-le n) = head 0 n
 vOf (rate per-s burst) = head 5 2 ++ (entry "burst" (head 0 burst) ++ entry "per_s" (head 0 per-s))
 vOf (tenant t) = text t

@@ -4,9 +4,12 @@
 use cbor_heads::Count;
 use cbor_keys::Key;
 use cbor_keys::Names;
+use cbor_keys::index;
 use cbor_strings::Class;
 use cbor_values::Item;
 use token_caveat_values::CaveatParts;
+use token_caveat_values::NumberOf;
+use token_caveat_values::TextOf;
 ghost use mathlib.Core.Path.{_≡_};
 ghost use Rattle.cbor_strings.specs.declared.Class.{Class};
 ghost use Rattle.token_caveat.specs.Reading.{valueAt, caveatOf};
@@ -16,16 +19,25 @@ fn value_at(s: &[u8], at: usize, t: u32) -> CaveatParts
     ensures { λ r. ⌜ r ≡ valueAt (now (s .entry)) t at ⌝ }
 {
     match t {
-        2 => token_caveat_values::text_value(s, at, 2, Class::Printable, 128),
-        3 => token_caveat_values::method_value(s, at),
-        4 => token_caveat_values::text_value(s, at, 4, Class::Path, 256),
-        5 => token_caveat_values::cidr_value(s, at),
-        7 => token_caveat_values::rate_value(s, at),
-        8 => token_caveat_values::text_value(s, at, 8, Class::Name, 64),
-        9 => token_caveat_values::amnesia_value(s, at),
-        10 => token_caveat_values::digest_value(s, at),
-        11 => token_caveat_values::custom_value(s, at),
-        _ => token_caveat_values::number_value(s, at, t),
+        index::T_EXP => token_caveat_values::number_value(s, at, NumberOf::Exp),
+        index::T_NBF => token_caveat_values::number_value(s, at, NumberOf::Nbf),
+        index::T_AUD => token_caveat_values::text_value(s, at, TextOf::Aud, Class::Printable, 128),
+        index::T_METHOD => token_caveat_values::method_value(s, at),
+        index::T_PATH_PREFIX => token_caveat_values::text_value(
+            s,
+            at,
+            TextOf::PathPrefix,
+            Class::Path,
+            256,
+        ),
+        index::T_IP_CIDR => token_caveat_values::cidr_value(s, at),
+        index::T_BYTES_LE => token_caveat_values::number_value(s, at, NumberOf::BytesLe),
+        index::T_RATE => token_caveat_values::rate_value(s, at),
+        index::T_TENANT => token_caveat_values::text_value(s, at, TextOf::Tenant, Class::Name, 64),
+        index::T_AMNESIA => token_caveat_values::amnesia_value(s, at),
+        index::T_GOV_POLICY_DIGEST => token_caveat_values::digest_value(s, at),
+        index::T_CUSTOM => token_caveat_values::custom_value(s, at),
+        _ => CaveatParts::Bad { kind: 6, at },
     }
 }
 
@@ -34,7 +46,12 @@ pub fn read_caveat(s: &[u8]) -> CaveatParts
 {
     match cbor_heads::read_count(s, 0, 5, 2, 2, 6) {
         Count::Bad { kind, at: a } => CaveatParts::Bad { kind, at: a },
-        Count::Of { n: _, next: p } => match cbor_keys::wanted_key(s, p, Names::Caveat, 0) {
+        Count::Of { n: _, next: p } => match cbor_keys::wanted_key(
+            s,
+            p,
+            Names::Caveat,
+            index::CAVEAT_T,
+        ) {
             Item::Bad { kind, at: a } => CaveatParts::Bad { kind, at: a },
             Item::End { next: q } => match cbor_keys::key_at(s, q, Names::T) {
                 Key::Bad { kind, at: a } => CaveatParts::Bad { kind, at: a },
@@ -42,7 +59,7 @@ pub fn read_caveat(s: &[u8]) -> CaveatParts
                     s,
                     p2,
                     Names::Caveat,
-                    1,
+                    index::CAVEAT_V,
                 ) {
                     Item::Bad { kind, at: a } => CaveatParts::Bad { kind, at: a },
                     Item::End { next: v } => value_at(s, v, t),

@@ -5,13 +5,17 @@ use Prim.Native.Nat.{ℕ}
 use Rattle.basis.proofs.OneAnswer.{told}
 use Rattle.cbor_strings.specs.declared.Class.{Class}
 use Rattle.token_caveat_values.specs.Values.{numberValue, textValue, digestValue, methodValue, cidrValue, rateValue, amnesiaValue, customValue}
+use Rattle.token_caveat_values.specs.Makes.{ofNumber, ofText}
+use Rattle.token_caveat_values.specs.declared.NumberOf.{NumberOf}
+use Rattle.token_caveat_values.specs.declared.TextOf.{TextOf}
 use Rattle.token_caveat_values.specs.declared.CaveatParts.{CaveatParts}
 
-pub number-value-one-answer : (s : List ℕ) (at t : ℕ) {r q : CaveatParts} → r ≡ numberValue s t at → q ≡ numberValue s t at → r ≡ q
-number-value-one-answer s at t x y = told x y
+pub number-value-one-answer : (s : List ℕ) (at : ℕ) (which : NumberOf) {r q : CaveatParts} → r ≡ numberValue (ofNumber which) s at → q ≡ numberValue (ofNumber which) s at → r ≡ q
+number-value-one-answer s at which x y = told x y
 
-pub text-value-one-answer : (s : List ℕ) (at t : ℕ) (class : Class) (high : ℕ) {r q : CaveatParts} → r ≡ textValue s t class high at → q ≡ textValue s t class high at → r ≡ q
-text-value-one-answer s at t class high x y = told x y
+pub text-value-one-answer : (s : List ℕ) (at : ℕ) (which : TextOf) (class : Class) (high : ℕ) {r q : CaveatParts}
+    → r ≡ textValue (ofText which) class high s at → q ≡ textValue (ofText which) class high s at → r ≡ q
+text-value-one-answer s at which class high x y = told x y
 
 pub digest-value-one-answer : (s : List ℕ) (at : ℕ) {r q : CaveatParts} → r ≡ digestValue s at → q ≡ digestValue s at → r ≡ q
 digest-value-one-answer s at x y = told x y

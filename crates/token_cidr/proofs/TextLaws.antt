@@ -1,5 +1,5 @@
 -- One spelling: the text of a prefix reads back as that prefix, and what reads as a prefix is its text.
-use mathlib.Core.Path.{_≡_, refl, sym, ap, ap₂, _∙_}
+use mathlib.Core.Path.{_≡_, refl, sym, ap, ap₂, subst, _∙_}
 use mathlib.Core.Bool.{Bool, true, false}
 use mathlib.Core.List.{List, [], _∷_, _++_, append-nil}
 use Prim.Native.Nat.{ℕ, _+_, _-_, _*_, _/_, _%_, _^_, _≤_, _<_}
@@ -10,10 +10,11 @@ use lib.Dec.{ltb, eqb}
 use lib.ListN.{length, drop, getD, length-drop}
 use lib.Seq.{drop-cons, drop-drop, drop-at, drop-length}
 use Rattle.basis.specs.Basis.{pick}
-use Rattle.token_cidr.specs.Prefixes.{decimal, Prefix, textOf, addressOf, Good}
-use Rattle.token_cidr.specs.Reading.{digitFront, digitAt, numberBy, numberAt, partBy, partAt, sizeBy, sizeAt, andThen, zerosOf, afterD, afterC, afterB, afterA, cidrOf}
-use Rattle.token_cidr.specs.declared.Number.{Number}
-use Rattle.token_cidr.specs.declared.Number.the-variants.{Got, No}
+use Rattle.token_cidr.specs.Prefixes.{decimal, Prefix, prefixText, addressOf, GoodPrefix}
+use Rattle.token_cidr.specs.Reading.{netOf, digitFront, digitAt, decimalBy, decimalAt, partBy, partAt, sizeBy, sizeAt, afterDecimal, zerosOf, afterD, afterC, afterB, afterA, cidrOf}
+use Rattle.token_cidr.specs.declared.Decimal.{Decimal}
+use Rattle.token_cidr.specs.declared.Decimal.the-variants.{Got, No}
+use Rattle.token_cidr.specs.declared.Network.{Network}
 use Rattle.token_cidr.specs.declared.Cidr.{Cidr}
 use Rattle.token_cidr.specs.declared.Cidr.the-variants.{Of, Bad}
 use Rattle.token_cidr.proofs.NumberReads.{zero-alone, one-digit, two-digits, three-digits}
@@ -72,16 +73,16 @@ module _ (s t : List ℕ) (at v : ℕ) (e : drop at s ≡ decimal v ++ t) (n : 9
   at-digit : (x : ℕ) (u : List ℕ) (i : ℕ) → x ≤ 9 → drop i s ≡ (48 + x) ∷ u → (digitAt s i ≡ x) × (drop (i + 1) s ≡ u)
   at-digit x u i h p = (ap digitFront p ∙ front-digit x u h, sym (drop-drop 1 i s) ∙ ap (drop 1) p)
 
-  pub number-written : v < 1000 → numberAt s at ≡ Got v (at + length (decimal v))
+  pub number-written : v < 1000 → decimalAt s at ≡ Got v (at + length (decimal v))
   number-written h = by (form v h)
     where
-      by : Form v → numberAt s at ≡ Got v (at + length (decimal v))
+      by : Form v → decimalAt s at ≡ Got v (at + length (decimal v))
       by (one g) =
           let a = at-digit v t at (omega arith) (e ∙ ap (λ (x : List ℕ). x ++ t) (one-is v g)) in
           let y : 9 < digitAt s (at + 1) = rw (a .1) n in
           rw (a .0, one-is v g) (alone (eqb v 0) refl g y)
         where
-          alone : (z : Bool) → eqb v 0 ≡ z → v < 10 → 9 < digitAt s (at + 1) → numberBy at v (digitAt s (at + 1)) (digitAt s (at + 2)) ≡ Got v (at + 1)
+          alone : (z : Bool) → eqb v 0 ≡ z → v < 10 → 9 < digitAt s (at + 1) → decimalBy at v (digitAt s (at + 1)) (digitAt s (at + 2)) ≡ Got v (at + 1)
           alone true p g y = let z = eqb-true v 0 p in sym (ap (λ (x : ℕ). Got x (at + 1)) z ∙ zero-alone at v _ _ (omega arith) z)
           alone false p g y = sym (one-digit at v _ _ (omega arith) (eqb-false v 0 p) y)
       by (two l g) =
@@ -154,8 +155,8 @@ number-by s at x y z ex ey ez false p false q false r false t {v} {next} e =
       small = omega arith;
     }
 
-pub number-read : (s : List ℕ) (at : ℕ) {v next : ℕ} → numberAt s at ≡ Got v next → NumberRead s at v next
-unfolding numberBy
+pub number-read : (s : List ℕ) (at : ℕ) {v next : ℕ} → decimalAt s at ≡ Got v next → NumberRead s at v next
+unfolding decimalBy
 number-read s at e =
     number-by s at (digitAt s at) (digitAt s (at + 1)) (digitAt s (at + 2)) refl refl refl (ltb 9 (digitAt s at)) refl (eqb (digitAt s at) 0) refl
     (ltb 9 (digitAt s (at + 1))) refl (ltb 9 (digitAt s (at + 2))) refl e
@@ -200,9 +201,9 @@ size-written s at v e h =
 -- a part and a size as they are read
 pub part-read : (s : List ℕ) (at mark : ℕ) {v next : ℕ} → partAt s at mark ≡ Got v next → (drop at s ≡ decimal v ++ (mark ∷ drop next s)) × (v ≤ 255)
 unfolding partBy
-part-read s at mark {v} {next} = by (numberAt s at) refl
+part-read s at mark {v} {next} = by (decimalAt s at) refl
   where
-    by-tests : (w n : ℕ) → numberAt s at ≡ Got w n → (a : Bool) → ltb 255 w ≡ a → (b : Bool) → ltb n (length s) ≡ b → (c : Bool) → eqb (getD s n 0) mark ≡ c
+    by-tests : (w n : ℕ) → decimalAt s at ≡ Got w n → (a : Bool) → ltb 255 w ≡ a → (b : Bool) → ltb n (length s) ≡ b → (c : Bool) → eqb (getD s n 0) mark ≡ c
         → pick a No (pick b (pick c (Got w (n + 1)) No) No) ≡ Got v next → (drop at s ≡ decimal v ++ (mark ∷ drop next s)) × (v ≤ 255)
     by-tests w n p true q b r c t e = let z : _≡_ {A = ℕ} 0 1 = cc in let z : ⊥ = omega arith in elim z [ ]
     by-tests w n p false q false r c t e = let z : _≡_ {A = ℕ} 0 1 = cc in let z : ⊥ = omega arith in elim z [ ]
@@ -215,15 +216,15 @@ part-read s at mark {v} {next} = by (numberAt s at) refl
         let f : drop n s ≡ mark ∷ drop next s = drop-cons s n 0 h ∙ ap₂ (λ (a : ℕ) (l : List ℕ). a ∷ l) m (ap (λ (k : ℕ). drop k s) (sym (add-one n) ∙ y)) in
         (number-read s at p .there ∙ ap₂ (λ (a : ℕ) (l : List ℕ). decimal a ++ l) x f, omega (arith, ltb-false 255 w q))
 
-    by : (i : Number) → numberAt s at ≡ i → partBy s mark i ≡ Got v next → (drop at s ≡ decimal v ++ (mark ∷ drop next s)) × (v ≤ 255)
+    by : (i : Decimal) → decimalAt s at ≡ i → partBy s mark i ≡ Got v next → (drop at s ≡ decimal v ++ (mark ∷ drop next s)) × (v ≤ 255)
     by No p e = let z : _≡_ {A = ℕ} 0 1 = cc in let z : ⊥ = omega arith in elim z [ ]
     by (Got w n) p e = by-tests w n p (ltb 255 w) refl (ltb n (length s)) refl (eqb (getD s n 0) mark) refl e
 
 pub size-read : (s : List ℕ) (at : ℕ) {v next : ℕ} → sizeAt s at ≡ Got v next → (drop at s ≡ decimal v) × (v ≤ 32)
 unfolding sizeBy
-size-read s at {v} {next} = by (numberAt s at) refl
+size-read s at {v} {next} = by (decimalAt s at) refl
   where
-    by-tests : (w n : ℕ) → numberAt s at ≡ Got w n → (a : Bool) → ltb 32 w ≡ a → (b : Bool) → eqb n (length s) ≡ b
+    by-tests : (w n : ℕ) → decimalAt s at ≡ Got w n → (a : Bool) → ltb 32 w ≡ a → (b : Bool) → eqb n (length s) ≡ b
         → pick a No (pick b (Got w n) No) ≡ Got v next → (drop at s ≡ decimal v) × (v ≤ 32)
     by-tests w n p true q b r e = let z : _≡_ {A = ℕ} 0 1 = cc in let z : ⊥ = omega arith in elim z [ ]
     by-tests w n p false q false r e = let z : _≡_ {A = ℕ} 0 1 = cc in let z : ⊥ = omega arith in elim z [ ]
@@ -233,15 +234,15 @@ size-read s at {v} {next} = by (numberAt s at) refl
         let f : drop n s ≡ [] = ap (λ (k : ℕ). drop k s) m ∙ drop-length s in
         (number-read s at p .there ∙ ap₂ (λ (a : ℕ) (l : List ℕ). decimal a ++ l) x f ∙ append-nil (decimal v), omega (arith, ltb-false 32 w q))
 
-    by : (i : Number) → numberAt s at ≡ i → sizeBy s i ≡ Got v next → (drop at s ≡ decimal v) × (v ≤ 32)
+    by : (i : Decimal) → decimalAt s at ≡ i → sizeBy s i ≡ Got v next → (drop at s ≡ decimal v) × (v ≤ 32)
     by No p e = let z : _≡_ {A = ℕ} 0 1 = cc in let z : ⊥ = omega arith in elim z [ ]
     by (Got w n) p e = by-tests w n p (ltb 32 w) refl (eqb n (length s)) refl e
 
 -- the text of a prefix reads as that prefix
-pub text-reads : (p : Prefix) → Good p → cidrOf (textOf p) ≡ Of (p .a) (p .b) (p .c) (p .d) (p .size)
-unfolding cidrOf afterA afterB afterC afterD zerosOf andThen digitFront textOf
+pub text-reads : (p : Prefix) → GoodPrefix p → cidrOf (prefixText p) ≡ Of (netOf (p .a) (p .b) (p .c) (p .d) (p .size))
+unfolding cidrOf afterA afterB afterC afterD zerosOf afterDecimal digitFront prefixText
 text-reads p g =
-    let s = textOf p in
+    let s = prefixText p in
     let td = decimal (p .size) in
     let tc = decimal (p .d) ++ (47 ∷ td) in
     let tb = decimal (p .c) ++ (46 ∷ tc) in
@@ -264,33 +265,33 @@ text-reads p g =
     )
 
 -- a step that ended in a prefix went on
-record Went (i : Number) (f : ℕ → ℕ → Cidr) (r : Cidr) : Type 0 where
+record Went (i : Decimal) (f : ℕ → ℕ → Cidr) (r : Cidr) : Type 0 where
   v : ℕ
   next : ℕ
   got : i ≡ Got v next
   rest : f v next ≡ r
 
-went : (i : Number) (f : ℕ → ℕ → Cidr) {a b c d n : ℕ} → andThen i f ≡ Of a b c d n → Went i f (Of a b c d n)
-unfolding andThen
+went : (i : Decimal) (f : ℕ → ℕ → Cidr) {net : Network} → afterDecimal i f ≡ Of net → Went i f (Of net)
+unfolding afterDecimal
 went No f e = let z : _≡_ {A = ℕ} 0 1 = cc in let z : ⊥ = omega arith in elim z [ ]
 went (Got v next) f e = record { v = v; next = next; got = refl; rest = e }
 
-zeros-read : (u v w x y next : ℕ) {a b c d n : ℕ} → zerosOf u v w x y next ≡ Of a b c d n
-    → (addressOf u v w x % 2 ^ (32 - y) ≡ 0) × (_≡_ {A = Cidr} (Of u v w x y) (Of a b c d n))
+zeros-read : (u v w x y next : ℕ) {net : Network} → zerosOf u v w x y next ≡ Of net
+    → (addressOf u v w x % 2 ^ (32 - y) ≡ 0) × (netOf u v w x y ≡ net)
 unfolding zerosOf
-zeros-read u v w x y next {a} {b} {c} {d} {n} = by (eqb (addressOf u v w x % 2 ^ (32 - y)) 0) refl
+zeros-read u v w x y next {net} = by (eqb (addressOf u v w x % 2 ^ (32 - y)) 0) refl
   where
-    by : (z : Bool) → eqb (addressOf u v w x % 2 ^ (32 - y)) 0 ≡ z → pick z (Of u v w x y) Bad ≡ Of a b c d n
-        → (addressOf u v w x % 2 ^ (32 - y) ≡ 0) × (_≡_ {A = Cidr} (Of u v w x y) (Of a b c d n))
-    by true p e = (eqb-true _ 0 p, e)
+    by : (z : Bool) → eqb (addressOf u v w x % 2 ^ (32 - y)) 0 ≡ z → pick z (Of (netOf u v w x y)) Bad ≡ Of net
+        → (addressOf u v w x % 2 ^ (32 - y) ≡ 0) × (netOf u v w x y ≡ net)
+    by true p e = let j : netOf u v w x y ≡ net = cc in (eqb-true _ 0 p, j)
     by false p e = let z : _≡_ {A = ℕ} 0 1 = cc in let z : ⊥ = omega arith in elim z [ ]
 
 -- the parts, one behind the other
 assembled : (s : List ℕ) (a b c d n p1 p2 p3 p4 : ℕ) → (drop 0 s ≡ decimal a ++ (46 ∷ drop p1 s)) × (a ≤ 255) → (drop p1 s ≡ decimal b ++ (46 ∷ drop p2 s)) × (b ≤ 255)
     → (drop p2 s ≡ decimal c ++ (46 ∷ drop p3 s)) × (c ≤ 255) → (drop p3 s ≡ decimal d ++ (47 ∷ drop p4 s)) × (d ≤ 255)
     → (drop p4 s ≡ decimal n) × (n ≤ 32) → addressOf a b c d % 2 ^ (32 - n) ≡ 0
-    → (let p : Prefix = record { a = a; b = b; c = c; d = d; size = n } in Good p × (s ≡ textOf p))
-unfolding textOf
+    → (let p : Prefix = record { a = a; b = b; c = c; d = d; size = n } in GoodPrefix p × (s ≡ prefixText p))
+unfolding prefixText
 assembled s a b c d n p1 p2 p3 p4 r1 r2 r3 r4 r5 z = (
   record {
     a-byte = omega (arith, r1 .1);
@@ -304,28 +305,21 @@ assembled s a b c d n p1 p2 p3 p4 r1 r2 r3 r4 r5 z = (
       (r3 .0 ∙ ap (λ (l : List ℕ). decimal c ++ (46 ∷ l)) (r4 .0 ∙ ap (λ (l : List ℕ). decimal d ++ (47 ∷ l)) (r5 .0)))),
 )
 
+-- the prefix that a reading answers
+abbrev pub prefixOf : Network → Prefix
+prefixOf net = record { a = net .a; b = net .b; c = net .c; d = net .d; size = net .size }
+
 -- and what reads as a prefix is its text
-pub reads-text : (s : List ℕ) {a b c d n : ℕ} → cidrOf s ≡ Of a b c d n
-    → (let p : Prefix = record { a = a; b = b; c = c; d = d; size = n } in Good p × (s ≡ textOf p))
+pub reads-text : (s : List ℕ) {net : Network} → cidrOf s ≡ Of net → GoodPrefix (prefixOf net) × (s ≡ prefixText (prefixOf net))
 unfolding cidrOf afterA afterB afterC afterD
-reads-text s {a} {b} {c} {d} {n} e =
+reads-text s {net} e =
     let w1 = went (partAt s 0 46) (afterA s) e in
     let w2 = went (partAt s (w1 .next) 46) (afterB s (w1 .v)) (w1 .rest) in
     let w3 = went (partAt s (w2 .next) 46) (afterC s (w1 .v) (w2 .v)) (w2 .rest) in
     let w4 = went (partAt s (w3 .next) 47) (afterD s (w1 .v) (w2 .v) (w3 .v)) (w3 .rest) in
     let w5 = went (sizeAt s (w4 .next)) (zerosOf (w1 .v) (w2 .v) (w3 .v) (w4 .v)) (w4 .rest) in
     let z = zeros-read (w1 .v) (w2 .v) (w3 .v) (w4 .v) (w5 .v) (w5 .next) (w5 .rest) in
-    moved s (z .1) (assembled s (w1 .v) (w2 .v) (w3 .v) (w4 .v) (w5 .v) (w1 .next) (w2 .next) (w3 .next) (w4 .next)
+    subst (λ (net : Network). GoodPrefix (prefixOf net) × (s ≡ prefixText (prefixOf net))) (z .1)
+    (assembled s (w1 .v) (w2 .v) (w3 .v) (w4 .v) (w5 .v) (w1 .next) (w2 .next) (w3 .next) (w4 .next)
     (part-read s 0 46 (w1 .got)) (part-read s (w1 .next) 46 (w2 .got)) (part-read s (w2 .next) 46 (w3 .got)) (part-read s (w3 .next) 47 (w4 .got))
     (size-read s (w4 .next) (w5 .got)) (z .0))
-  where
-    moved : (s : List ℕ) {u v w x y a b c d n : ℕ} → _≡_ {A = Cidr} (Of u v w x y) (Of a b c d n)
-        → (let p : Prefix = record { a = u; b = v; c = w; d = x; size = y } in Good p × (s ≡ textOf p))
-        → (let p : Prefix = record { a = a; b = b; c = c; d = d; size = n } in Good p × (s ≡ textOf p))
-    moved s {u} {v} {w} {x} {y} {a} {b} {c} {d} {n} e g =
-        let e1 : u ≡ a = cc in
-        let e2 : v ≡ b = cc in
-        let e3 : w ≡ c = cc in
-        let e4 : x ≡ d = cc in
-        let e5 : y ≡ n = cc in
-        rw (e1, e2, e3, e4, e5) at g

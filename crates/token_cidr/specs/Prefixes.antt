@@ -22,14 +22,14 @@ pub record Prefix : Type 0 where
   pub size : ℕ
 
 -- 46 is ".", 47 is "/"
-unfoldable pub textOf : Prefix → List ℕ
-textOf p = decimal (p .a) ++ (46 ∷ (decimal (p .b) ++ (46 ∷ (decimal (p .c) ++ (46 ∷ (decimal (p .d) ++ (47 ∷ decimal (p .size))))))))
+unfoldable pub prefixText : Prefix → List ℕ
+prefixText p = decimal (p .a) ++ (46 ∷ (decimal (p .b) ++ (46 ∷ (decimal (p .c) ++ (46 ∷ (decimal (p .d) ++ (47 ∷ decimal (p .size))))))))
 
 -- the address as one number, the first byte the highest
 abbrev pub addressOf : ℕ → ℕ → ℕ → ℕ → ℕ
 addressOf a b c d = ((a * 256 + b) * 256 + c) * 256 + d
 
-pub record Good (p : Prefix) : Type 0 where
+pub record GoodPrefix (p : Prefix) : Type 0 where
   pub a-byte : p .a < 256
   pub b-byte : p .b < 256
   pub c-byte : p .c < 256

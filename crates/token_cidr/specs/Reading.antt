@@ -5,8 +5,9 @@ use lib.Dec.{ltb, eqb}
 use lib.ListN.{length, drop, getD}
 use Rattle.basis.specs.Basis.{pick}
 use Rattle.token_cidr.specs.Prefixes.{addressOf}
-use Rattle.token_cidr.specs.declared.Number.{Number}
-use Rattle.token_cidr.specs.declared.Number.the-variants.{Got, No}
+use Rattle.token_cidr.specs.declared.Decimal.{Decimal}
+use Rattle.token_cidr.specs.declared.Decimal.the-variants.{Got, No}
+use Rattle.token_cidr.specs.declared.Network.{Network}
 use Rattle.token_cidr.specs.declared.Cidr.{Cidr}
 use Rattle.token_cidr.specs.declared.Cidr.the-variants.{Of, Bad}
 
@@ -19,38 +20,38 @@ abbrev pub digitAt : List ℕ → ℕ → ℕ
 digitAt s at = digitFront (drop at s)
 
 -- one to three digits: a leading 0 stands alone, and a fourth digit is left for what comes behind to refuse
-unfoldable pub numberBy : ℕ → ℕ → ℕ → ℕ → Number
-numberBy at x y z =
+unfoldable pub decimalBy : ℕ → ℕ → ℕ → ℕ → Decimal
+decimalBy at x y z =
     pick (ltb 9 x) No
     (pick (eqb x 0) (Got 0 (at + 1))
     (pick (ltb 9 y) (Got x (at + 1))
     (pick (ltb 9 z) (Got (x * 10 + y) (at + 2))
     (Got (x * 100 + y * 10 + z) (at + 3)))))
 
-abbrev pub numberAt : List ℕ → ℕ → Number
-numberAt s at = numberBy at (digitAt s at) (digitAt s (at + 1)) (digitAt s (at + 2))
+abbrev pub decimalAt : List ℕ → ℕ → Decimal
+decimalAt s at = decimalBy at (digitAt s at) (digitAt s (at + 1)) (digitAt s (at + 2))
 
 -- a byte of the address, and the mark behind it
-unfoldable pub partBy : List ℕ → ℕ → Number → Number
+unfoldable pub partBy : List ℕ → ℕ → Decimal → Decimal
 partBy s mark No = No
 partBy s mark (Got v next) =
     pick (ltb 255 v) No
     (pick (ltb next (length s)) (pick (eqb (getD s next 0) mark) (Got v (next + 1)) No) No)
 
-abbrev pub partAt : List ℕ → ℕ → ℕ → Number
-partAt s at mark = partBy s mark (numberAt s at)
+abbrev pub partAt : List ℕ → ℕ → ℕ → Decimal
+partAt s at mark = partBy s mark (decimalAt s at)
 
 -- the number of bits, and nothing behind it
-unfoldable pub sizeBy : List ℕ → Number → Number
+unfoldable pub sizeBy : List ℕ → Decimal → Decimal
 sizeBy s No = No
 sizeBy s (Got v next) = pick (ltb 32 v) No (pick (eqb next (length s)) (Got v next) No)
 
-abbrev pub sizeAt : List ℕ → ℕ → Number
-sizeAt s at = sizeBy s (numberAt s at)
+abbrev pub sizeAt : List ℕ → ℕ → Decimal
+sizeAt s at = sizeBy s (decimalAt s at)
 
-unfoldable pub andThen : Number → (ℕ → ℕ → Cidr) → Cidr
-andThen No f = Bad
-andThen (Got v next) f = f v next
+unfoldable pub afterDecimal : Decimal → (ℕ → ℕ → Cidr) → Cidr
+afterDecimal No f = Bad
+afterDecimal (Got v next) f = f v next
 
 -- what the parts that were read keep
 pub record Bytes4 (a b c d n : ℕ) : Type 0 where
@@ -60,21 +61,25 @@ pub record Bytes4 (a b c d n : ℕ) : Type 0 where
   pub d-byte : d ≤ 255
   pub short : n ≤ 32
 
+-- the address's bytes in written order, and how many of its bits count
+abbrev pub netOf : ℕ → ℕ → ℕ → ℕ → ℕ → Network
+netOf a b c d n = record { a = a; b = b; c = c; d = d; size = n }
+
 -- the steps of a.b.c.d/n, each named after what has been read before it; 46 is ".", 47 is "/"
 unfoldable pub zerosOf : ℕ → ℕ → ℕ → ℕ → ℕ → ℕ → Cidr
-zerosOf a b c d n next = pick (eqb (addressOf a b c d % 2 ^ (32 - n)) 0) (Of a b c d n) Bad
+zerosOf a b c d n next = pick (eqb (addressOf a b c d % 2 ^ (32 - n)) 0) (Of (netOf a b c d n)) Bad
 
 unfoldable pub afterD : List ℕ → ℕ → ℕ → ℕ → ℕ → ℕ → Cidr
-afterD s a b c d at = andThen (sizeAt s at) (zerosOf a b c d)
+afterD s a b c d at = afterDecimal (sizeAt s at) (zerosOf a b c d)
 
 unfoldable pub afterC : List ℕ → ℕ → ℕ → ℕ → ℕ → Cidr
-afterC s a b c at = andThen (partAt s at 47) (afterD s a b c)
+afterC s a b c at = afterDecimal (partAt s at 47) (afterD s a b c)
 
 unfoldable pub afterB : List ℕ → ℕ → ℕ → ℕ → Cidr
-afterB s a b at = andThen (partAt s at 46) (afterC s a b)
+afterB s a b at = afterDecimal (partAt s at 46) (afterC s a b)
 
 unfoldable pub afterA : List ℕ → ℕ → ℕ → Cidr
-afterA s a at = andThen (partAt s at 46) (afterB s a)
+afterA s a at = afterDecimal (partAt s at 46) (afterB s a)
 
 unfoldable pub cidrOf : List ℕ → Cidr
-cidrOf s = andThen (partAt s 0 46) (afterA s)
+cidrOf s = afterDecimal (partAt s 0 46) (afterA s)

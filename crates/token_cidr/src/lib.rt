@@ -5,22 +5,24 @@ ghost use Prim.Native.Nat.{_-_, _%_, _^_};
 ghost use lib.Dec.{eqb};
 ghost use Rattle.token_cidr.specs.Bits.{agreeOf};
 ghost use Rattle.token_cidr.specs.Prefixes.{addressOf};
-ghost use Rattle.token_cidr.specs.Reading.{digitAt, numberAt, partAt, sizeAt, cidrOf, Bytes4};
+ghost use Rattle.token_cidr.specs.Reading.{digitAt, decimalAt, partAt, sizeAt, cidrOf, Bytes4};
 
-pub enum Number {
+pub enum Decimal {
     Got { value: u32, next: usize },
     No,
 }
 
 // The address's bytes in written order, and how many of its bits count.
+pub struct Network {
+    pub a: u32,
+    pub b: u32,
+    pub c: u32,
+    pub d: u32,
+    pub size: u32,
+}
+
 pub enum Cidr {
-    Of {
-        a: u32,
-        b: u32,
-        c: u32,
-        d: u32,
-        n: u32,
-    },
+    Of { network: Network },
     Bad,
 }
 
@@ -41,75 +43,75 @@ fn digit_at(s: &[u8], at: usize) -> u32
     (c - 48) as u32
 }
 
-fn number_at(s: &[u8], at: usize) -> Number
-    ensures { λ r. ⌜ r ≡ numberAt (now (s .entry)) at ⌝ }
+fn decimal_at(s: &[u8], at: usize) -> Decimal
+    ensures { λ r. ⌜ r ≡ decimalAt (now (s .entry)) at ⌝ }
 {
     let x = digit_at(s, at);
     if 9 < x {
-        return Number::No;
+        return Decimal::No;
     }
     if x == 0 {
-        return Number::Got {
+        return Decimal::Got {
             value: 0,
             next: at + 1,
         };
     }
     let y = digit_at(s, at + 1);
     if 9 < y {
-        return Number::Got {
+        return Decimal::Got {
             value: x,
             next: at + 1,
         };
     }
     let z = digit_at(s, at + 2);
     if 9 < z {
-        return Number::Got {
+        return Decimal::Got {
             value: x * 10 + y,
             next: at + 2,
         };
     }
-    Number::Got {
+    Decimal::Got {
         value: x * 100 + y * 10 + z,
         next: at + 3,
     }
 }
 
 // A byte of the address with the mark behind it.
-fn part_at(s: &[u8], at: usize, mark: u8) -> Number
+fn part_at(s: &[u8], at: usize, mark: u8) -> Decimal
     ensures { λ r. ⌜ r ≡ partAt (now (s .entry)) at mark ⌝ }
 {
-    let Number::Got { value: v, next } = number_at(s, at) else {
-        return Number::No;
+    let Decimal::Got { value: v, next } = decimal_at(s, at) else {
+        return Decimal::No;
     };
     if 255 < v {
-        return Number::No;
+        return Decimal::No;
     }
     if next < s.len() {
         if s[next] == mark {
-            return Number::Got {
+            return Decimal::Got {
                 value: v,
                 next: next + 1,
             };
         }
-        return Number::No;
+        return Decimal::No;
     }
-    Number::No
+    Decimal::No
 }
 
 // How many bits count, with nothing behind it.
-fn size_at(s: &[u8], at: usize) -> Number
+fn size_at(s: &[u8], at: usize) -> Decimal
     ensures { λ r. ⌜ r ≡ sizeAt (now (s .entry)) at ⌝ }
 {
-    let Number::Got { value: v, next } = number_at(s, at) else {
-        return Number::No;
+    let Decimal::Got { value: v, next } = decimal_at(s, at) else {
+        return Decimal::No;
     };
     if 32 < v {
-        return Number::No;
+        return Decimal::No;
     }
     if next == s.len() {
-        return Number::Got { value: v, next };
+        return Decimal::Got { value: v, next };
     }
-    Number::No
+    Decimal::No
 }
 
 // Whether the bits of the address past the first n are zero.
@@ -125,23 +127,31 @@ fn zeros_past(a: u32, b: u32, c: u32, d: u32, n: u32) -> bool
 pub fn read_cidr(s: &[u8]) -> Cidr
     ensures { λ r. ⌜ r ≡ cidrOf (now (s .entry)) ⌝ }
 {
-    let Number::Got { value: a, next: p1 } = part_at(s, 0, b'.') else {
+    let Decimal::Got { value: a, next: p1 } = part_at(s, 0, b'.') else {
         return Cidr::Bad;
     };
-    let Number::Got { value: b, next: p2 } = part_at(s, p1, b'.') else {
+    let Decimal::Got { value: b, next: p2 } = part_at(s, p1, b'.') else {
         return Cidr::Bad;
     };
-    let Number::Got { value: c, next: p3 } = part_at(s, p2, b'.') else {
+    let Decimal::Got { value: c, next: p3 } = part_at(s, p2, b'.') else {
         return Cidr::Bad;
     };
-    let Number::Got { value: d, next: p4 } = part_at(s, p3, b'/') else {
+    let Decimal::Got { value: d, next: p4 } = part_at(s, p3, b'/') else {
         return Cidr::Bad;
     };
-    let Number::Got { value: n, next: _ } = size_at(s, p4) else {
+    let Decimal::Got { value: n, next: _ } = size_at(s, p4) else {
         return Cidr::Bad;
     };
     if zeros_past(a, b, c, d, n) {
-        return Cidr::Of { a, b, c, d, n };
+        return Cidr::Of {
+            network: Network {
+                a,
+                b,
+                c,
+                d,
+                size: n,
+            },
+        };
     }
     Cidr::Bad
 }

@@ -2,48 +2,52 @@
 use mathlib.Core.List.{List}
 use Prim.Native.Nat.{ℕ, _+_}
 use lib.ListN.{drop}
+use Rattle.basis.specs.Basis.{fromTo}
 use Rattle.cbor_heads.specs.Counts.{readCount}
+use Rattle.cbor_values.specs.Lists.{listOf}
+use Rattle.cbor_values.specs.declared.ListAt.{ListAt}
 use Rattle.cbor_values.specs.Reading.{itemsOf}
 use Rattle.cbor_values.specs.declared.Item.{Item}
 use Rattle.cbor_values.specs.declared.Item.the-variants.{End, Bad as NoItem}
 use Rattle.cbor_keys.specs.Keys.{wantedKey}
+use Rattle.cbor_keys.specs.Indexes.{tokenC, tokenR}
 use Rattle.cbor_keys.specs.Steps.{afterItem, afterCount}
 use Rattle.cbor_keys.specs.declared.Names.the-variants.{Token as TokenKeys}
 use Rattle.token_scope.specs.Reading.{scopeOf, afterScope}
-use Rattle.token_scope.specs.declared.Prefix.{Prefix}
-use Rattle.token_scope.specs.declared.Limit.{Limit}
+use Rattle.token_scope.specs.declared.ScopeAt.{ScopeAt}
 use Rattle.token_caveat.specs.Reading.{caveatOf}
 use Rattle.token_caveat_values.specs.declared.CaveatParts.{CaveatParts}
-use Rattle.token_caveat_values.specs.declared.CaveatParts.the-variants.{Of as CaveatAt, Bad as NoCaveat}
-use Rattle.token_front.specs.declared.Front.{Front}
-use Rattle.token_front.specs.declared.Front.the-variants.{Of as FrontOf, Bad as NoFront}
+use Rattle.token_caveat_values.specs.declared.CaveatParts.the-variants.{Of as CaveatFound, Bad as NoCaveat}
+use Rattle.token_front.specs.declared.FrontAt.{FrontAt}
+use Rattle.token_front.specs.declared.FrontParts.{FrontParts}
+use Rattle.token_front.specs.declared.FrontParts.the-variants.{Of, Bad}
 
 -- "Each caveat is read .. where it lies in the middle of the decoded token": from its first byte on, its places counted in the token
 unfoldable pub endBy : ℕ → CaveatParts → Item
 endBy at (NoCaveat kind a) = NoItem kind (at + a)
-endBy at (CaveatAt caveat n) = End (at + n)
+endBy at (CaveatFound caveat n) = End (at + n)
 
 abbrev pub caveatEnd : List ℕ → ℕ → Item
 caveatEnd s at = endBy at (caveatOf (drop at s))
 
 -- c and r
-abbrev pub frontThen : ℕ → ℕ → ℕ → ℕ → Prefix → ℕ → ℕ → ℕ → Limit → ℕ → Front
-frontThen count from to scope prefix k f t limit next = FrontOf count from to scope next
+abbrev pub frontThen : ListAt → ℕ → ScopeAt → ℕ → FrontParts
+frontThen caveats at scope next = Of (record { caveats = caveats; scope = fromTo at next })
 
-unfoldable pub rThen : List ℕ → ℕ → ℕ → ℕ → ℕ → Front
-rThen s count from to at = afterScope NoFront (frontThen count from to at) (scopeOf s at)
+unfoldable pub rThen : List ℕ → ListAt → ℕ → FrontParts
+rThen s caveats at = afterScope Bad (frontThen caveats at) (scopeOf s at)
 
-unfoldable pub rKeyThen : List ℕ → ℕ → ℕ → ℕ → Front
-rKeyThen s count from to = afterItem NoFront (rThen s count from to) (wantedKey TokenKeys s to 1)
+unfoldable pub rKeyThen : List ℕ → ℕ → ℕ → ℕ → FrontParts
+rKeyThen s count from to = afterItem Bad (rThen s (listOf count (fromTo from to))) (wantedKey TokenKeys s to tokenR)
 
-unfoldable pub caveatsThen : List ℕ → ℕ → ℕ → Front
-caveatsThen s count from = afterItem NoFront (rKeyThen s count from) (itemsOf (caveatEnd s) count from)
+unfoldable pub caveatsThen : List ℕ → ℕ → ℕ → FrontParts
+caveatsThen s count from = afterItem Bad (rKeyThen s count from) (itemsOf (caveatEnd s) count from)
 
-unfoldable pub cThen : List ℕ → ℕ → Front
-cThen s at = afterCount NoFront (caveatsThen s) (readCount s at 4 0 64 5)
+unfoldable pub cThen : List ℕ → ℕ → FrontParts
+cThen s at = afterCount Bad (caveatsThen s) (readCount s at 4 0 64 5)
 
-unfoldable pub mapThen : List ℕ → ℕ → ℕ → Front
-mapThen s n at = afterItem NoFront (cThen s) (wantedKey TokenKeys s at 0)
+unfoldable pub mapThen : List ℕ → ℕ → ℕ → FrontParts
+mapThen s n at = afterItem Bad (cThen s) (wantedKey TokenKeys s at tokenC)
 
-unfoldable pub frontOf : List ℕ → Front
-frontOf s = afterCount NoFront (mapThen s) (readCount s 0 5 6 6 6)
+unfoldable pub frontOf : List ℕ → FrontParts
+frontOf s = afterCount Bad (mapThen s) (readCount s 0 5 6 6 6)

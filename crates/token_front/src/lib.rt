@@ -1,8 +1,11 @@
 // The front of a token: the map's head, the caveats where they lie, and the scope. A defect carries document 01's
 // number and the place of the item at fault.
+use basis::Span;
 use cbor_heads::Count;
 use cbor_keys::Names;
+use cbor_keys::index;
 use cbor_values::Item;
+use cbor_values::ListAt;
 use token_caveat_values::CaveatParts;
 use token_scope::ScopeParts;
 ghost use mathlib.Core.Path.{_≡_};
@@ -11,19 +14,15 @@ ghost use Rattle.cbor_values.specs.Reading.{itemsOf};
 ghost use Rattle.token_caveat.specs.Reading.{caveatOf};
 ghost use Rattle.token_front.specs.Front.{caveatEnd, caveatsThen, frontOf};
 
-// The caveats, how many and where they lie, and where the scope lies.
-pub enum Front {
-    Of {
-        count: u64,
-        from: usize,
-        to: usize,
-        scope: usize,
-        next: usize,
-    },
-    Bad {
-        kind: u32,
-        at: usize,
-    },
+// Where the caveats and the scope lie.
+pub struct FrontAt {
+    pub caveats: ListAt,
+    pub scope: Span,
+}
+
+pub enum FrontParts {
+    Of { front: FrontAt },
+    Bad { kind: u32, at: usize },
 }
 
 // The walk over the caveats of a token: the one that begins at a place, in a part lent from there on.
@@ -64,43 +63,46 @@ fn caveats_end(s: &[u8], from: usize, count: u64) -> Item
 }
 
 // From the first caveat on.
-fn caveats_then(s: &[u8], count: u64, from: usize) -> Front
+fn caveats_then(s: &[u8], count: u64, from: usize) -> FrontParts
     ensures { λ r. ⌜ r ≡ caveatsThen (now (s .entry)) count from ⌝ }
 {
     match caveats_end(s, from, count) {
-        Item::Bad { kind, at: a } => Front::Bad { kind, at: a },
-        Item::End { next: to } => match cbor_keys::wanted_key(s, to, Names::Token, 1) {
-            Item::Bad { kind, at: a } => Front::Bad { kind, at: a },
+        Item::Bad { kind, at: a } => FrontParts::Bad { kind, at: a },
+        Item::End { next: to } => match cbor_keys::wanted_key(s, to, Names::Token, index::TOKEN_R) {
+            Item::Bad { kind, at: a } => FrontParts::Bad { kind, at: a },
             Item::End { next: scope } => match token_scope::read_scope(s, scope) {
-                ScopeParts::Bad { kind, at: a } => Front::Bad { kind, at: a },
-                ScopeParts::Of {
-                    prefix: _,
-                    count: _,
-                    from: _,
-                    to: _,
-                    max_bytes: _,
-                    next,
-                } => Front::Of {
-                    count,
-                    from,
-                    to,
-                    scope,
-                    next,
+                ScopeParts::Bad { kind, at: a } => FrontParts::Bad { kind, at: a },
+                ScopeParts::Of { scope: _, next } => FrontParts::Of {
+                    front: FrontAt {
+                        caveats: ListAt {
+                            count,
+                            span: Span { from, to },
+                        },
+                        scope: Span {
+                            from: scope,
+                            to: next,
+                        },
+                    },
                 },
             },
         },
     }
 }
 
-pub fn read_front(s: &[u8]) -> Front
+pub fn read_front(s: &[u8]) -> FrontParts
     ensures { λ r. ⌜ r ≡ frontOf (now (s .entry)) ⌝ }
 {
     match cbor_heads::read_count(s, 0, 5, 6, 6, 6) {
-        Count::Bad { kind, at: a } => Front::Bad { kind, at: a },
-        Count::Of { n: _, next: p } => match cbor_keys::wanted_key(s, p, Names::Token, 0) {
-            Item::Bad { kind, at: a } => Front::Bad { kind, at: a },
+        Count::Bad { kind, at: a } => FrontParts::Bad { kind, at: a },
+        Count::Of { n: _, next: p } => match cbor_keys::wanted_key(
+            s,
+            p,
+            Names::Token,
+            index::TOKEN_C,
+        ) {
+            Item::Bad { kind, at: a } => FrontParts::Bad { kind, at: a },
             Item::End { next: q } => match cbor_heads::read_count(s, q, 4, 0, 64, 5) {
-                Count::Bad { kind, at: a } => Front::Bad { kind, at: a },
+                Count::Bad { kind, at: a } => FrontParts::Bad { kind, at: a },
                 Count::Of {
                     n: count,
                     next: from,

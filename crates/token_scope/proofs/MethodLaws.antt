@@ -5,8 +5,11 @@ use Prim.Native.Nat.{ℕ, zero, suc, _+_, _-_}
 use native.Mathlib.Nat.{add-zero}
 use native.Mathlib.Omega.{arith}
 use lib.ListN.{length, drop}
-use Rattle.basis.specs.Basis.{IsBytes}
+use Rattle.basis.specs.Basis.{fromTo, IsBytes}
+use Rattle.basis.specs.declared.Span.{Span}
 use Rattle.basis.proofs.Parts.{past, ends}
+use Rattle.cbor_values.specs.Lists.{listOf}
+use Rattle.cbor_values.specs.declared.ListAt.{ListAt}
 use Rattle.cbor_heads.specs.Heads.{head}
 use Rattle.cbor_strings.specs.Strings.{readString}
 use Rattle.cbor_heads.specs.Counts.{readCount}
@@ -14,13 +17,13 @@ use Rattle.cbor_strings.specs.declared.Class.the-variants.{Upper}
 use Rattle.cbor_heads.specs.declared.Count.{Count}
 use Rattle.cbor_heads.specs.declared.Count.the-variants.{Of as Counted, Bad as NoCount}
 use Rattle.cbor_heads.proofs.CountLaws.{head-there, there-head, count, counted}
-use Rattle.cbor_strings.specs.declared.Span.{Span}
-use Rattle.cbor_strings.specs.declared.Span.the-variants.{Of as Found, Bad as NoSpan}
+use Rattle.cbor_strings.specs.declared.Content.{Content}
+use Rattle.cbor_strings.specs.declared.Content.the-variants.{Of as Found, Bad as NoContent}
 use Rattle.cbor_values.specs.Reading.{andThen, itemsOf}
 use Rattle.cbor_values.specs.declared.Item.{Item}
 use Rattle.cbor_values.specs.declared.Item.the-variants.{End, Bad as NoItem}
-use Rattle.token_scope.specs.declared.Methods.{Methods}
-use Rattle.token_scope.specs.declared.Methods.the-variants.{Of, Bad}
+use Rattle.token_scope.specs.declared.MethodsParts.{MethodsParts}
+use Rattle.token_scope.specs.declared.MethodsParts.the-variants.{Of, Bad}
 use Rattle.cbor_keys.specs.Maps.{text, texts, GoodText}
 use Rattle.token_scope.specs.Scopes.{encodeMethods, AllMethods, GoodMethods}
 use Rattle.cbor_keys.proofs.TextLaws.{text-written, IsText, text-read, text-one}
@@ -41,14 +44,14 @@ methods-there (m ∷ ms) g s rest at e =
     (methods-there ms (g .1) s rest (at + length (text m)) (past s (text m) (texts ms ++ rest) at f) ∙ ap End (ends (text m) (texts ms) at))
 
 pub methods-written : (ms : List (List ℕ)) → GoodMethods ms → (s rest : List ℕ) (at : ℕ) → drop at s ≡ encodeMethods ms ++ rest
-    → methodsOf s at ≡ Of (length ms) (at + length (head 4 (length ms))) (at + length (encodeMethods ms))
+    → methodsOf s at ≡ Of (listOf (length ms) (fromTo (at + length (head 4 (length ms))) (at + length (encodeMethods ms))))
 unfolding encodeMethods methodsBy methodsTo
 methods-written ms g s rest at e =
     let l = g .few in
     let h = head 4 (length ms) in
     let f = e ∙ append-assoc h (texts ms) rest in
     let r = sym (count s at 4 0 16 5 (head-there s (texts ms ++ rest) at 4 (length ms) f (omega arith)) refl (omega arith) l) in
-    rw (r, methods-there ms (g .each) s rest (at + length h) (past s h (texts ms ++ rest) at f)) (ap (Of (length ms) (at + length h)) (ends h (texts ms) at))
+    rw (r, methods-there ms (g .each) s rest (at + length h) (past s h (texts ms ++ rest) at f)) (ap (λ (to : ℕ). Of (listOf (length ms) (fromTo (at + length h) to))) (ends h (texts ms) at))
 
 -- the methods lie behind their array's head
 pub methods-lie : (ms : List (List ℕ)) (s rest : List ℕ) (at : ℕ) → drop at s ≡ encodeMethods ms ++ rest
@@ -58,13 +61,13 @@ methods-lie ms s rest at e =
     let h = head 4 (length ms) in
     past s h (texts ms ++ drop (at + length (encodeMethods ms)) s) at (e ∙ rw (past s (encodeMethods ms) rest at e, append-assoc))
 
-method-read : (s : List ℕ) → IsBytes s → (at to : ℕ) → methodAt s at ≡ End to → (from : ℕ) × IsText Upper 1 16 s at from to
+method-read : (s : List ℕ) → IsBytes s → (at to : ℕ) → methodAt s at ≡ End to → (part : Span) × IsText Upper 1 16 s at part × (part .to ≡ to)
 unfolding endOf
 method-read s b at to = by (readString s at Upper 1 16) refl
   where
-    by : (r : Span) → readString s at Upper 1 16 ≡ r → endOf r ≡ End to → (from : ℕ) × IsText Upper 1 16 s at from to
-    by (NoSpan kind a) p e = let z : _≡_ {A = ℕ} 0 1 = cc in let z : ⊥ = omega arith in elim z [ ]
-    by (Found from t) p e = let x : t ≡ to = cc in (from, subst (IsText Upper 1 16 s at from) x (text-read Upper 1 16 s b at p))
+    by : (r : Content) → readString s at Upper 1 16 ≡ r → endOf r ≡ End to → (part : Span) × IsText Upper 1 16 s at part × (part .to ≡ to)
+    by (NoContent kind a) p e = let z : _≡_ {A = ℕ} 0 1 = cc in let z : ⊥ = omega arith in elim z [ ]
+    by (Found part) p e = let x : part .to ≡ to = cc in (part, text-read Upper 1 16 s b at p, x)
 
 record AreMethods (s : List ℕ) (k at to : ℕ) : Type 0 where
   pub trees : List (List ℕ)
@@ -81,60 +84,58 @@ methods-read-from s b (suc k) at to e = by (methodAt s at) refl e (methods-read-
         → ((at to : ℕ) → itemsOf (methodAt s) k at ≡ End to → AreMethods s k at to) → AreMethods s (suc k) at to
     by (NoItem kind a) p e m = let z : _≡_ {A = ℕ} 0 1 = cc in let z : ⊥ = omega arith in elim z [ ]
     by (End t) p e m =
-        let v = method-read s b at t p .1 in
+        let r = method-read s b at t p in
+        let v = r .1 in
         let vs = m t to e in
         record {
           trees = v .tree ∷ vs .trees;
           counted-so = ap suc (vs .counted-so);
           good = (v .good, vs .good);
-          there = rw append-assoc (v .there ∙ ap (λ (t : List ℕ). text (v .tree) ++ t) (vs .there));
+          there = rw append-assoc (v .there ∙ ap (λ (t : List ℕ). text (v .tree) ++ t) (ap (λ (i : ℕ). drop i s) (r .2) ∙ vs .there));
         }
 
--- from `at` to `to` stands a method list within limits; its first method begins at `from`
-pub record IsMethods (s : List ℕ) (at k from to : ℕ) : Type 0 where
+-- a method list within limits begins at `at`, and its methods lie where they were found
+pub record IsMethods (s : List ℕ) (at : ℕ) (list : ListAt) : Type 0 where
   pub methods : List (List ℕ)
-  pub few : length methods ≡ k
+  pub few : length methods ≡ list .count
   pub good : GoodMethods methods
-  pub begins : drop from s ≡ texts methods ++ drop to s
-  pub there : drop at s ≡ encodeMethods methods ++ drop to s
+  pub begins : drop (list .span .from) s ≡ texts methods ++ drop (list .span .to) s
+  pub there : drop at s ≡ encodeMethods methods ++ drop (list .span .to) s
 
-pub methods-read : (s : List ℕ) → IsBytes s → (at : ℕ) {k from to : ℕ} → methodsOf s at ≡ Of k from to → IsMethods s at k from to
+pub methods-read : (s : List ℕ) → IsBytes s → (at : ℕ) {list : ListAt} → methodsOf s at ≡ Of list → IsMethods s at list
 unfolding methodsBy methodsTo encodeMethods
-methods-read s b at {k} {from} {to} = by (readCount s at 4 0 16 5) refl
+methods-read s b at {list} = by (readCount s at 4 0 16 5) refl
   where
-    within : (n f : ℕ) → readCount s at 4 0 16 5 ≡ Counted n f → (i : Item) → itemsOf (methodAt s) n f ≡ i → methodsTo n f i ≡ Of k from to → IsMethods s at k from to
+    within : (n f : ℕ) → readCount s at 4 0 16 5 ≡ Counted n f → (i : Item) → itemsOf (methodAt s) n f ≡ i → methodsTo n f i ≡ Of list → IsMethods s at list
     within n f p (NoItem kind a) q e = let z : _≡_ {A = ℕ} 0 1 = cc in let z : ⊥ = omega arith in elim z [ ]
     within n f p (End t) q e =
-        let x : n ≡ k = cc in
-        let y : f ≡ from = cc in
-        let z : t ≡ to = cc in
+        let j : listOf n (fromTo f t) ≡ list = cc in
         let c = counted s at 4 0 16 5 p in
         let v = methods-read-from s b n f t q in
         let h = there-head s b at (c .headed) in
-        record {
+        subst (IsMethods s at) j
+        (record {
           methods = v .trees;
-          few = v .counted-so ∙ x;
+          few = v .counted-so;
           good = record { few = rw (v .counted-so) (c .few); each = v .good };
-          begins = rw (← y, ← z) (v .there);
-          there = rw (v .counted-so, ← z, append-assoc, ← v .there) h;
-        }
+          begins = v .there;
+          there = rw (v .counted-so, append-assoc, ← v .there) h;
+        })
 
-    by : (c : Count) → readCount s at 4 0 16 5 ≡ c → methodsBy s c ≡ Of k from to → IsMethods s at k from to
+    by : (c : Count) → readCount s at 4 0 16 5 ≡ c → methodsBy s c ≡ Of list → IsMethods s at list
     by (NoCount kind a) p e = let z : _≡_ {A = ℕ} 0 1 = cc in let z : ⊥ = omega arith in elim z [ ]
     by (Counted n f) p e = within n f p (itemsOf (methodAt s) n f) refl e
 
-pub record MethodsWent {A : Type 0} (rest : ℕ → ℕ → ℕ → A) (m : Methods) (x : A) : Type 0 where
-  pub number : ℕ
-  pub first : ℕ
-  pub behind : ℕ
-  pub was : m ≡ Of number first behind
-  pub goes : rest number first behind ≡ x
+pub record MethodsWent {A : Type 0} (rest : ListAt → A) (m : MethodsParts) (x : A) : Type 0 where
+  pub list : ListAt
+  pub was : m ≡ Of list
+  pub goes : rest list ≡ x
 
 -- a step of a reading that ended well; see StepLaws
-pub methods-went : {A : Type 0} {x : A} {bad : ℕ → ℕ → A} → ((kind at : ℕ) → bad kind at ≡ x → ⊥) → (rest : ℕ → ℕ → ℕ → A) (m : Methods)
+pub methods-went : {A : Type 0} {x : A} {bad : ℕ → ℕ → A} → ((kind at : ℕ) → bad kind at ≡ x → ⊥) → (rest : ListAt → A) (m : MethodsParts)
     → afterMethods bad rest m ≡ x → MethodsWent rest m x
 methods-went never rest (Bad kind at) e = let z = never kind at e in elim z [ ]
-methods-went never rest (Of c f t) e = record { number = c; first = f; behind = t; was = refl; goes = e }
+methods-went never rest (Of list) e = record { list = list; was = refl; goes = e }
 
 -- one list for one encoding: as many methods within limits, written at the front of one string, are the same
 pub methods-one : (xs ys : List (List ℕ)) → AllMethods xs → AllMethods ys → length xs ≡ length ys → (t u : List ℕ) → texts xs ++ t ≡ texts ys ++ u → xs ≡ ys

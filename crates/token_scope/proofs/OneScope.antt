@@ -2,30 +2,18 @@
 use mathlib.Core.Path.{_≡_, refl, sym, ap, ap₂, subst, _∙_}
 use mathlib.Core.List.{List, _++_}
 use mathlib.Core.Option.{Option, some, none}
-use Prim.Native.Nat.{ℕ, _+_, _-_}
+use Prim.Native.Nat.{ℕ}
 use native.Mathlib.Omega.{arith}
 use lib.ListN.{drop}
 use Rattle.basis.proofs.Parts.{one-rest}
 use Rattle.token_scope.specs.Scopes.{Scope, encodeScope, GoodScope}
-use Rattle.token_scope.specs.declared.Prefix.{Prefix}
-use Rattle.token_scope.specs.declared.Prefix.the-variants.{Absent as NoPrefix, Of as PrefixAt}
-use Rattle.token_scope.specs.declared.Limit.{Limit}
+use Rattle.basis.proofs.Held.{part-held-one}
+use Rattle.token_scope.specs.declared.ScopeAt.{ScopeAt}
 use Rattle.token_scope.specs.declared.ScopeParts.{ScopeParts}
 use Rattle.token_scope.specs.declared.ScopeParts.the-variants.{Of}
 use Rattle.token_scope.proofs.MethodLaws.{methods-one}
-use Rattle.token_scope.proofs.Holds.{limitOf, PrefixHeld, Holds}
+use Rattle.token_scope.proofs.Holds.{limitOf, Holds}
 use Rattle.token_scope.proofs.ScopeWritten.{scope, scope-written}
-
--- the parts settle the scope
-prefix-one : (s : List ℕ) (o p : Option (List ℕ)) (part : Prefix) → PrefixHeld s o part → PrefixHeld s p part → o ≡ p
-prefix-one s none none NoPrefix g h = refl
-prefix-one s none none (PrefixAt from to) g h = elim g [ ]
-prefix-one s none (some y) NoPrefix g h = elim h [ ]
-prefix-one s none (some y) (PrefixAt from to) g h = elim g [ ]
-prefix-one s (some x) none NoPrefix g h = elim g [ ]
-prefix-one s (some x) none (PrefixAt from to) g h = elim h [ ]
-prefix-one s (some x) (some y) NoPrefix g h = elim g [ ]
-prefix-one s (some x) (some y) (PrefixAt from to) g h = ap some (sym g ∙ h)
 
 limit-one : (o p : Option ℕ) → limitOf o ≡ limitOf p → o ≡ p
 limit-one none none e = refl
@@ -33,18 +21,17 @@ limit-one none (some n) e = let z : _≡_ {A = ℕ} 0 1 = cc in let z : ⊥ = om
 limit-one (some n) none e = let z : _≡_ {A = ℕ} 0 1 = cc in let z : ⊥ = omega arith in elim z [ ]
 limit-one (some n) (some m) e = let x : n ≡ m = cc in ap some x
 
-module _ (s : List ℕ) (x y : Scope) (gx : GoodScope x) (gy : GoodScope y) {p o : Prefix} {k l f g t u n m : ℕ} {a b : Limit} where
-  pub holds-one : Holds s x p k f t a → Holds s y o l g u b → _≡_ {A = ScopeParts} (Of p k f t a n) (Of o l g u b m) → x ≡ y
+-- the parts settle the scope
+module _ (s : List ℕ) (x y : Scope) (gx : GoodScope x) (gy : GoodScope y) {a b : ScopeAt} {n m : ℕ} where
+  pub holds-one : Holds s x a → Holds s y b → _≡_ {A = ScopeParts} (Of a n) (Of b m) → x ≡ y
   holds-one hx hy e =
-      let pe : p ≡ o = cc in
-      let ke : k ≡ l = cc in
-      let fe : f ≡ g = cc in
-      let ae : a ≡ b = cc in
-      let q = prefix-one s (x .prefix) (y .prefix) o (subst (PrefixHeld s (x .prefix)) pe (hx .prefix-held)) (hy .prefix-held) in
+      let j : a ≡ b = cc in
+      let h = subst (Holds s x) j hx in
+      let q = part-held-one s (x .prefix) (y .prefix) (b .prefix) (h .prefix-held) (hy .prefix-held) in
       let r =
-      methods-one (x .methods) (y .methods) (gx .good-methods .each) (gy .good-methods .each) (hx .counted-so ∙ ke ∙ sym (hy .counted-so)) (drop t s) (drop u s)
-      (sym (hx .methods-held) ∙ ap (λ (i : ℕ). drop i s) fe ∙ hy .methods-held) in
-      let v = limit-one (x .max-bytes) (y .max-bytes) (hx .limit-held ∙ ae ∙ sym (hy .limit-held)) in
+      methods-one (x .methods) (y .methods) (gx .good-methods .each) (gy .good-methods .each) (h .counted-so ∙ sym (hy .counted-so)) (drop (b .methods .span .to) s)
+      (drop (b .methods .span .to) s) (sym (h .methods-held) ∙ hy .methods-held) in
+      let v = limit-one (x .max-bytes) (y .max-bytes) (h .limit-held ∙ sym (hy .limit-held)) in
       ap₂ (λ (o : Option (List ℕ)) (r : List (List ℕ) × Option ℕ). scope o (r .0) (r .1)) q (ap₂ (λ (a : List (List ℕ)) (b : Option ℕ). (a, b)) r v)
 
 -- one scope for one encoding, whatever stands behind

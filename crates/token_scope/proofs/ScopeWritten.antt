@@ -7,7 +7,8 @@ use native.Mathlib.Nat.{add-zero}
 use native.Mathlib.Omega.{arith}
 use borrow.Author.Tests.{le-ltb}
 use lib.ListN.{length, drop, length-append}
-use Rattle.basis.specs.Basis.{ascii}
+use Rattle.basis.specs.Basis.{ascii, fromTo}
+use Rattle.cbor_values.specs.Lists.{listOf}
 use Rattle.basis.specs.Same.{sameOf}
 use Rattle.basis.proofs.Parts.{past, ends}
 use Rattle.cbor_heads.specs.Heads.{head}
@@ -20,47 +21,46 @@ use Rattle.cbor_keys.proofs.KeyLaws.{key-written, wanted-written}
 use Rattle.cbor_keys.proofs.FieldLaws.{number-field-written}
 use Rattle.cbor_keys.proofs.TextLaws.{text-written, text-held}
 use Rattle.token_scope.specs.Scopes.{Scope, encodeMethods, encodeScope, GoodMethods, GoodPath, Number64, GoodScope}
-use Rattle.token_scope.specs.Reading.{maxBytesThen, limitThen, methodsThen, prefixNext, prefixThen, firstThen, entriesThen, scopeOf}
-use Rattle.token_scope.specs.declared.Prefix.{Prefix}
-use Rattle.token_scope.specs.declared.Prefix.the-variants.{Absent as NoPrefix, Of as PrefixAt}
+use Rattle.token_scope.specs.Reading.{threeParts, maxBytesThen, limitThen, methodsThen, prefixNext, prefixThen, firstThen, entriesThen, scopeOf}
+use Rattle.basis.specs.declared.Part.{Part}
+use Rattle.cbor_values.specs.declared.ListAt.{ListAt}
+use Rattle.token_scope.specs.declared.ScopeAt.{ScopeAt}
+use Rattle.basis.specs.declared.Part.the-variants.{Absent, At}
 use Rattle.token_scope.specs.declared.Limit.the-variants.{Absent as NoLimit}
 use Rattle.token_scope.specs.declared.ScopeParts.the-variants.{Of}
 use Rattle.token_scope.proofs.MethodLaws.{methods-written, methods-lie}
 use Rattle.token_scope.proofs.Holds.{limitOf, Holds}
 
-limit-written : (mb : Option ℕ) → IfPresent Number64 mb → (s rest : List ℕ) (p : Prefix) (k from to : ℕ) → drop to s ≡ entryIf "max_bytes" (head 0) mb ++ rest
-    → limitThen s p k from to (present mb) ≡ Of p k from to (limitOf mb) (to + length (entryIf "max_bytes" (head 0) mb))
+limit-written : (mb : Option ℕ) → IfPresent Number64 mb → (s rest : List ℕ) (p : Part) (m : ListAt) → drop (m .span .to) s ≡ entryIf "max_bytes" (head 0) mb ++ rest
+    → limitThen s p m (present mb) ≡ Of (threeParts p m (limitOf mb)) (m .span .to + length (entryIf "max_bytes" (head 0) mb))
 unfolding limitThen maxBytesThen keysOf indexFrom sameOf
-limit-written none g s rest p k from to e = ap (Of p k from to NoLimit) (sym (add-zero to))
-limit-written (some n) g s rest p k from to e =
-    rw (number-field-written ScopeKeys 2 (omega arith) (ascii "max_bytes") (omega arith) refl s rest to n 0xffffffffffffffff (omega arith) g e)
+limit-written none g s rest p m e = ap (Of (threeParts p m NoLimit)) (sym (add-zero (m .span .to)))
+limit-written (some n) g s rest p m e =
+    rw (number-field-written ScopeKeys 2 (omega arith) (ascii "max_bytes") (omega arith) refl s rest (m .span .to) n 0xffffffffffffffff (omega arith) g e)
 
-module _ (ms : List (List ℕ)) (gm : GoodMethods ms) (mb : Option ℕ) (gb : IfPresent Number64 mb) (s rest : List ℕ) (p : Prefix) (at : ℕ) where
+module _ (ms : List (List ℕ)) (gm : GoodMethods ms) (mb : Option ℕ) (gb : IfPresent Number64 mb) (s rest : List ℕ) (p : Part) (at : ℕ) where
   abbrev tail : List ℕ
   tail = encodeMethods ms ++ entryIf "max_bytes" (head 0) mb
 
-  abbrev behind : ℕ
-  behind = at + length (encodeMethods ms)
+  abbrev found : ListAt
+  found = listOf (length ms) (fromTo (at + length (head 4 (length ms))) (at + length (encodeMethods ms)))
 
   -- methods and max_bytes, from the methods' value on
   tail-written : drop at s ≡ tail ++ rest
-      → methodsThen s p (present mb) at ≡ Of p (length ms) (at + length (head 4 (length ms))) behind (limitOf mb) (at + length tail)
+      → methodsThen s p (present mb) at ≡ Of (threeParts p found (limitOf mb)) (at + length tail)
   unfolding methodsThen
   tail-written e =
       let l = entryIf "max_bytes" (head 0) mb in
       let f = e ∙ append-assoc (encodeMethods ms) l rest in
       let d = past s (encodeMethods ms) (l ++ rest) at f in
       rw (methods-written ms gm s (l ++ rest) at f)
-      (limit-written mb gb s rest p (length ms) (at + length (head 4 (length ms))) behind d
-      ∙ ap (Of p (length ms) (at + length (head 4 (length ms))) behind (limitOf mb)) (ends (encodeMethods ms) l at))
+      (limit-written mb gb s rest p found d ∙ ap (Of (threeParts p found (limitOf mb))) (ends (encodeMethods ms) l at))
 
 -- what a reading found of a scope that stands at `at`
 pub record Written (s : List ℕ) (at : ℕ) (x : Scope) : Type 0 where
-  pub part : Prefix
-  pub from : ℕ
-  pub to : ℕ
-  pub answer : scopeOf s at ≡ Of part (length (x .methods)) from to (limitOf (x .max-bytes)) (at + length (encodeScope x))
-  pub holds : Holds s x part (length (x .methods)) from to (limitOf (x .max-bytes))
+  pub parts : ScopeAt
+  pub answer : scopeOf s at ≡ Of parts (at + length (encodeScope x))
+  pub holds : Holds s x parts
 
 few : (mb : Option ℕ) → present mb ≤ 1
 few none = omega arith
@@ -93,12 +93,11 @@ module _ (ms : List (List ℕ)) (gm : GoodMethods ms) (mb : Option ℕ) (gb : If
       let d2 = past s key ((list ++ limit) ++ rest) a1 d1 in
       let c = sym (count s at 5 1 3 6 (head-there s (key ++ ((list ++ limit) ++ rest)) at 5 n d0 (omega arith)) refl (omega arith) (omega arith)) in
       let k = key-written ScopeKeys (ascii "methods") (omega arith) 1 refl (omega arith) s ((list ++ limit) ++ rest) a1 d1 in
-      let t = tail-written ms gm mb gb s rest NoPrefix a2 d2 in
+      let t = tail-written ms gm mb gb s rest Absent a2 d2 in
+      let parts = threeParts Absent (listOf (length ms) (fromTo (a2 + length (head 4 (length ms))) (a2 + length list))) (limitOf mb) in
       record {
-        part = NoPrefix;
-        from = a2 + length (head 4 (length ms));
-        to = a2 + length list;
-        answer = rw (c, k, q) (t ∙ ap (Of NoPrefix (length ms) (a2 + length (head 4 (length ms))) (a2 + length list) (limitOf mb)) (simp length-append (omega arith)));
+        parts = parts;
+        answer = rw (c, k, q) (t ∙ ap (Of parts) (simp length-append (omega arith)));
         holds = record { prefix-held = tt; counted-so = refl; methods-held = methods-lie ms s (limit ++ rest) a2 (d2 ∙ append-assoc list limit rest); limit-held = refl };
       }
 
@@ -125,14 +124,11 @@ module _ (ms : List (List ℕ)) (gm : GoodMethods ms) (mb : Option ℕ) (gb : If
       let k = key-written ScopeKeys (ascii "prefix") (omega arith) 0 refl (omega arith) s (text p ++ (key ++ ((list ++ limit) ++ rest))) a1 d1 in
       let x = text-written Path 1 256 p gp (omega arith) s (key ++ ((list ++ limit) ++ rest)) a2 d2 in
       let w = wanted-written ScopeKeys (ascii "methods") (omega arith) 1 refl (omega arith) s ((list ++ limit) ++ rest) a3 d3 in
-      let t = tail-written ms gm mb gb s rest (PrefixAt from a3) a4 d4 in
+      let t = tail-written ms gm mb gb s rest (At (fromTo from a3)) a4 d4 in
+      let parts = threeParts (At (fromTo from a3)) (listOf (length ms) (fromTo (a4 + length (head 4 (length ms))) (a4 + length list))) (limitOf mb) in
       record {
-        part = PrefixAt from a3;
-        from = a4 + length (head 4 (length ms));
-        to = a4 + length list;
-        answer =
-            rw (c, k, x, le-ltb n 2 (omega arith), w, q)
-            (t ∙ ap (Of (PrefixAt from a3) (length ms) (a4 + length (head 4 (length ms))) (a4 + length list) (limitOf mb)) (simp length-append (omega arith)));
+        parts = parts;
+        answer = rw (c, k, x, le-ltb n 2 (omega arith), w, q) (t ∙ ap (Of parts) (simp length-append (omega arith)));
         holds = record {
           prefix-held = text-held p (omega arith) s (key ++ ((list ++ limit) ++ rest)) a2 d2;
           counted-so = refl;

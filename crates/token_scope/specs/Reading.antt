@@ -10,48 +10,55 @@ use Rattle.cbor_strings.specs.Strings.{readString}
 use Rattle.cbor_strings.specs.declared.Class.the-variants.{Path}
 use Rattle.cbor_keys.specs.Keys.{keyAt, wantedKey}
 use Rattle.cbor_keys.specs.Fields.{numberField}
-use Rattle.cbor_keys.specs.Steps.{afterItem, afterSpan, afterCount, afterKey}
+use Rattle.cbor_keys.specs.Steps.{afterItem, afterContent, afterCount, afterKey}
 use Rattle.cbor_keys.specs.declared.Names.the-variants.{Scope}
 use Rattle.token_scope.specs.Methods.{methodsOf, afterMethods}
-use Rattle.token_scope.specs.declared.Prefix.{Prefix}
-use Rattle.token_scope.specs.declared.Prefix.the-variants.{Absent as NoPrefix, Of as PrefixAt}
+use Rattle.basis.specs.declared.Span.{Span}
+use Rattle.basis.specs.declared.Part.{Part}
+use Rattle.basis.specs.declared.Part.the-variants.{Absent, At}
+use Rattle.cbor_values.specs.declared.ListAt.{ListAt}
 use Rattle.token_scope.specs.declared.Limit.{Limit}
 use Rattle.token_scope.specs.declared.Limit.the-variants.{Absent as NoLimit, Of as AtMost}
+use Rattle.token_scope.specs.declared.ScopeAt.{ScopeAt}
 use Rattle.token_scope.specs.declared.ScopeParts.{ScopeParts}
 use Rattle.token_scope.specs.declared.ScopeParts.the-variants.{Of, Bad}
+
+-- the three parts of a scope
+abbrev pub threeParts : Part → ListAt → Limit → ScopeAt
+threeParts prefix methods limit = record { prefix = prefix; methods = methods; «max_bytes» = limit }
 
 -- a key behind max_bytes, which is the last one
 unfoldable pub anotherThen : ℕ → ℕ → ℕ → ScopeParts
 anotherThen at index next = Bad 4 at
 
-unfoldable pub maxBytesThen : List ℕ → Prefix → ℕ → ℕ → ℕ → ℕ → ℕ → ℕ → ScopeParts
-maxBytesThen s prefix count from to left n next =
-    pick (eqb left 1) (Of prefix count from to (AtMost n) next) (afterKey Bad (anotherThen next) (keyAt Scope s next))
+unfoldable pub maxBytesThen : List ℕ → Part → ListAt → ℕ → ℕ → ℕ → ScopeParts
+maxBytesThen s prefix methods left n next =
+    pick (eqb left 1) (Of (threeParts prefix methods (AtMost n)) next) (afterKey Bad (anotherThen next) (keyAt Scope s next))
 
 -- behind the methods, where `left` entries are left
-unfoldable pub limitThen : List ℕ → Prefix → ℕ → ℕ → ℕ → ℕ → ScopeParts
-limitThen s prefix count from to left =
-    pick (eqb left 0) (Of prefix count from to NoLimit to)
-    (afterCount Bad (maxBytesThen s prefix count from to left) (numberField Scope s to 2 0xffffffffffffffff))
+unfoldable pub limitThen : List ℕ → Part → ListAt → ℕ → ScopeParts
+limitThen s prefix methods left =
+    pick (eqb left 0) (Of (threeParts prefix methods NoLimit) (methods .span .to))
+    (afterCount Bad (maxBytesThen s prefix methods left) (numberField Scope s (methods .span .to) 2 0xffffffffffffffff))
 
-abbrev pub methodsNext : List ℕ → Prefix → ℕ → ℕ → ℕ → ℕ → ScopeParts
-methodsNext s prefix left count from to = limitThen s prefix count from to left
+abbrev pub methodsNext : List ℕ → Part → ℕ → ListAt → ScopeParts
+methodsNext s prefix left methods = limitThen s prefix methods left
 
 -- the methods' value, behind which `left` entries follow
-unfoldable pub methodsThen : List ℕ → Prefix → ℕ → ℕ → ScopeParts
+unfoldable pub methodsThen : List ℕ → Part → ℕ → ℕ → ScopeParts
 methodsThen s prefix left at = afterMethods Bad (methodsNext s prefix left) (methodsOf s at)
 
 -- behind the prefix, in a map of n entries at `at`
-unfoldable pub prefixNext : List ℕ → ℕ → ℕ → ℕ → ℕ → ScopeParts
-prefixNext s at n from to =
-    pick (ltb n 2) (Bad 4 at) (afterItem Bad (methodsThen s (PrefixAt from to) (n - 2)) (wantedKey Scope s to 1))
+unfoldable pub prefixNext : List ℕ → ℕ → ℕ → Span → ScopeParts
+prefixNext s at n prefix =
+    pick (ltb n 2) (Bad 4 at) (afterItem Bad (methodsThen s (At prefix) (n - 2)) (wantedKey Scope s (prefix .to) 1))
 
 unfoldable pub prefixThen : List ℕ → ℕ → ℕ → ℕ → ScopeParts
-prefixThen s at n next = afterSpan Bad (prefixNext s at n) (readString s next Path 1 256)
+prefixThen s at n next = afterContent Bad (prefixNext s at n) (readString s next Path 1 256)
 
 unfoldable pub firstThen : List ℕ → ℕ → ℕ → ℕ → ℕ → ℕ → ScopeParts
 firstThen s at n p index next =
-    pick (eqb index 0) (prefixThen s at n next) (pick (eqb index 1) (methodsThen s NoPrefix (n - 1) next) (Bad 4 p))
+    pick (eqb index 0) (prefixThen s at n next) (pick (eqb index 1) (methodsThen s Absent (n - 1) next) (Bad 4 p))
 
 unfoldable pub entriesThen : List ℕ → ℕ → ℕ → ℕ → ScopeParts
 entriesThen s at n p = afterKey Bad (firstThen s at n p) (keyAt Scope s p)
@@ -60,6 +67,6 @@ unfoldable pub scopeOf : List ℕ → ℕ → ScopeParts
 scopeOf s at = afterCount Bad (entriesThen s at) (readCount s at 5 1 3 6)
 
 -- a step of a reading that is a scope; see Steps
-abbrev pub afterScope : {A : Type 0} → (ℕ → ℕ → A) → (Prefix → ℕ → ℕ → ℕ → Limit → ℕ → A) → ScopeParts → A
+abbrev pub afterScope : {A : Type 0} → (ℕ → ℕ → A) → (ScopeAt → ℕ → A) → ScopeParts → A
 afterScope bad rest (Bad kind at) = bad kind at
-afterScope bad rest (Of prefix count from to limit next) = rest prefix count from to limit next
+afterScope bad rest (Of scope next) = rest scope next

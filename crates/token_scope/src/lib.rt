@@ -1,25 +1,23 @@
 // Scopes: what they are, how they are written and how they are read. A reader takes a slice of any length
 // and a place in it; a defect carries document 01's number and the place of the item at fault.
+use basis::Part;
+use basis::Span;
 use cbor_heads::Count;
 use cbor_keys::Key;
 use cbor_keys::Names;
 use cbor_strings::Class;
-use cbor_strings::Span;
+use cbor_strings::Content;
 use cbor_values::Item;
+use cbor_values::ListAt;
 ghost use mathlib.Core.Path.{_≡_};
 ghost use Rattle.cbor_values.specs.Reading.{itemsOf};
 ghost use Rattle.token_scope.specs.Methods.{methodAt, methodsOf};
 ghost use Rattle.token_scope.specs.Reading.{prefixThen, methodsThen, limitThen, scopeOf};
 
-// How many methods a list has, where the first begins and where the last ends.
-pub enum Methods {
-    Of { count: u64, from: usize, to: usize },
+// Where a method list lies, or what is wrong with it.
+pub enum MethodsParts {
+    Of { methods: ListAt },
     Bad { kind: u32, at: usize },
-}
-
-pub enum Prefix {
-    Absent,
-    Of { from: usize, to: usize },
 }
 
 pub enum Limit {
@@ -27,28 +25,25 @@ pub enum Limit {
     Of { n: u64 },
 }
 
-// What a scope holds: where the prefix's content and the methods lie, max_bytes, and where the scope ends.
+// Where a scope's parts lie.
+pub struct ScopeAt {
+    pub prefix: Part,
+    pub methods: ListAt,
+    pub max_bytes: Limit,
+}
+
+// A scope and where it ends, or what is wrong with it.
 pub enum ScopeParts {
-    Of {
-        prefix: Prefix,
-        count: u64,
-        from: usize,
-        to: usize,
-        max_bytes: Limit,
-        next: usize,
-    },
-    Bad {
-        kind: u32,
-        at: usize,
-    },
+    Of { scope: ScopeAt, next: usize },
+    Bad { kind: u32, at: usize },
 }
 
 fn method_at(s: &[u8], at: usize) -> Item
     ensures { λ r. ⌜ r ≡ methodAt (now (s .entry)) at ⌝ }
 {
     match cbor_strings::read_string(s, at, Class::Upper, 1, 16) {
-        Span::Of { from: _, to } => Item::End { next: to },
-        Span::Bad { kind, at: a } => Item::Bad { kind, at: a },
+        Content::Of { span } => Item::End { next: span.to },
+        Content::Bad { kind, at: a } => Item::Bad { kind, at: a },
     }
 }
 
@@ -71,30 +66,36 @@ fn methods_end(s: &[u8], from: usize, count: u64) -> Item
     Item::End { next: p }
 }
 
-pub fn read_methods(s: &[u8], at: usize) -> Methods
+pub fn read_methods(s: &[u8], at: usize) -> MethodsParts
     ensures { λ r. ⌜ r ≡ methodsOf (now (s .entry)) at ⌝ }
 {
     let count = cbor_heads::read_count(s, at, 4, 0, 16, 5);
     match count {
-        Count::Bad { kind, at: a } => Methods::Bad { kind, at: a },
+        Count::Bad { kind, at: a } => MethodsParts::Bad { kind, at: a },
         Count::Of { n, next: from } => match methods_end(s, from, n) {
-            Item::Bad { kind, at: a } => Methods::Bad { kind, at: a },
-            Item::End { next: to } => Methods::Of { count: n, from, to },
+            Item::Bad { kind, at: a } => MethodsParts::Bad { kind, at: a },
+            Item::End { next: to } => MethodsParts::Of {
+                methods: ListAt {
+                    count: n,
+                    span: Span { from, to },
+                },
+            },
         },
     }
 }
 
 // Where `left` entries are left behind the methods.
-fn limit_then(s: &[u8], prefix: Prefix, count: u64, from: usize, to: usize, left: u64) -> ScopeParts
-    ensures { λ r. ⌜ r ≡ limitThen (now (s .entry)) prefix count from to left ⌝ }
+fn limit_then(s: &[u8], prefix: Part, methods: ListAt, left: u64) -> ScopeParts
+    ensures { λ r. ⌜ r ≡ limitThen (now (s .entry)) prefix methods left ⌝ }
 {
+    let to = methods.span.to;
     if left == 0 {
         return ScopeParts::Of {
-            prefix,
-            count,
-            from,
-            to,
-            max_bytes: Limit::Absent,
+            scope: ScopeAt {
+                prefix,
+                methods,
+                max_bytes: Limit::Absent,
+            },
             next: to,
         };
     }
@@ -103,11 +104,11 @@ fn limit_then(s: &[u8], prefix: Prefix, count: u64, from: usize, to: usize, left
         Count::Of { n, next } => {
             if left == 1 {
                 return ScopeParts::Of {
-                    prefix,
-                    count,
-                    from,
-                    to,
-                    max_bytes: Limit::Of { n },
+                    scope: ScopeAt {
+                        prefix,
+                        methods,
+                        max_bytes: Limit::Of { n },
+                    },
                     next,
                 };
             }
@@ -121,12 +122,12 @@ fn limit_then(s: &[u8], prefix: Prefix, count: u64, from: usize, to: usize, left
 }
 
 // Where the methods' value is at `at`, and `left` entries follow it.
-fn methods_then(s: &[u8], at: usize, prefix: Prefix, left: u64) -> ScopeParts
+fn methods_then(s: &[u8], at: usize, prefix: Part, left: u64) -> ScopeParts
     ensures { λ r. ⌜ r ≡ methodsThen (now (s .entry)) prefix left at ⌝ }
 {
     match read_methods(s, at) {
-        Methods::Bad { kind, at: a } => ScopeParts::Bad { kind, at: a },
-        Methods::Of { count, from, to } => limit_then(s, prefix, count, from, to, left),
+        MethodsParts::Bad { kind, at: a } => ScopeParts::Bad { kind, at: a },
+        MethodsParts::Of { methods } => limit_then(s, prefix, methods, left),
     }
 }
 
@@ -135,14 +136,14 @@ fn prefix_then(s: &[u8], at: usize, n: u64, next: usize) -> ScopeParts
     ensures { λ r. ⌜ r ≡ prefixThen (now (s .entry)) at n next ⌝ }
 {
     match cbor_strings::read_string(s, next, Class::Path, 1, 256) {
-        Span::Bad { kind, at: a } => ScopeParts::Bad { kind, at: a },
-        Span::Of { from, to } => {
+        Content::Bad { kind, at: a } => ScopeParts::Bad { kind, at: a },
+        Content::Of { span } => {
             if n < 2 {
                 return ScopeParts::Bad { kind: 4, at };
             }
-            match cbor_keys::wanted_key(s, to, Names::Scope, 1) {
+            match cbor_keys::wanted_key(s, span.to, Names::Scope, 1) {
                 Item::Bad { kind, at: a } => ScopeParts::Bad { kind, at: a },
-                Item::End { next: p } => methods_then(s, p, Prefix::Of { from, to }, n - 2),
+                Item::End { next: p } => methods_then(s, p, Part::At { span }, n - 2),
             }
         }
     }
@@ -160,7 +161,7 @@ pub fn read_scope(s: &[u8], at: usize) -> ScopeParts
                     return prefix_then(s, at, n, next);
                 }
                 if index == 1 {
-                    return methods_then(s, next, Prefix::Absent, n - 1);
+                    return methods_then(s, next, Part::Absent, n - 1);
                 }
                 ScopeParts::Bad { kind: 4, at: p }
             }

@@ -15,8 +15,8 @@ use Rattle.text_reading.specs.declared.Judged.the-variants.{Whole, Fault}
 use Rattle.text_reading.specs.declared.Decoded.{Decoded}
 use Rattle.text_reading.specs.declared.Decoded.the-variants.{Bytes, Bad, Short}
 use Rattle.text_reading.proofs.TextLaws.{whole-length}
-use Rattle.rules.specs.declared.Asked.{Asked}
-use Rattle.verify.specs.Verifying.{bytesThen, decodedThen, textThen}
+use Rattle.records_request.specs.declared.RequestAt.{RequestAt}
+use Rattle.verify.specs.Verifying.{bytesJudged, decodedJudged, textJudged}
 
 -- bytes were told: the text is whole, and the room holds them
 pub record Told (text : List ℕ) (n room : ℕ) : Type 0 where
@@ -53,24 +53,24 @@ module _ (text entry : List ℕ) (r : Decoded) (exit : List ℕ) (f : Filled tex
   pub lent-short : length entry ≡ 4096 → length (take (n - 0) exit) ≤ 4096
   lent-short l = let t = told .fits in rw length-take (omega arith)
 
-module _ (table text body : List ℕ) (q : Asked) (tenant : List ℕ) where
-  pub too-long : 5462 < length text → 5 ≡ textThen table text body q tenant
-  unfolding textThen
+module _ (table text body : List ℕ) (q : RequestAt) where
+  pub too-long : 5462 < length text → 5 ≡ textJudged table text body q
+  unfolding textJudged
   too-long h = rw (lt-ltb 5462 (length text) h)
 
   module _ (h : length text ≤ 5462) (entry : List ℕ) (l : length entry ≡ 4096) (r : Decoded) (exit : List ℕ) (f : Filled text entry r exit) where
-    decoded : decodedThen table text body q tenant r ≡ textThen table text body q tenant
-    unfolding textThen
+    decoded : decodedJudged table text body q r ≡ textJudged table text body q
+    unfolding textJudged
     decoded = rw (le-ltb 5462 (length text) h, ← l, f .answer)
 
-    pub not-text : {at : ℕ} → r ≡ Bad at → 3 ≡ textThen table text body q tenant
-    unfolding decodedThen
+    pub not-text : {at : ℕ} → r ≡ Bad at → 3 ≡ textJudged table text body q
+    unfolding decodedJudged
     not-text e = rw e at decoded
 
-    pub no-room : r ≡ Short → 5 ≡ textThen table text body q tenant
-    unfolding decodedThen
+    pub no-room : r ≡ Short → 5 ≡ textJudged table text body q
+    unfolding decodedJudged
     no-room e = rw e at decoded
 
-    pub whole-text : {n : ℕ} → r ≡ Bytes n → {s : List ℕ} → s ≡ bytesOf text → bytesThen table s body q tenant ≡ textThen table text body q tenant
-    unfolding decodedThen
+    pub whole-text : {n : ℕ} → r ≡ Bytes n → {s : List ℕ} → s ≡ bytesOf text → bytesJudged table s body q ≡ textJudged table text body q
+    unfolding decodedJudged
     whole-text e s = rw s (rw e at decoded)

@@ -11,14 +11,13 @@ use Rattle.basis.proofs.Picks.{either}
 use Rattle.text_reading.specs.Reading.{judgedOf, bytesOf, decodedOf}
 use Rattle.text_reading.specs.declared.Decoded.{Decoded}
 use Rattle.text_reading.specs.declared.Decoded.the-variants.{Bytes, Bad as NoText, Short}
-use Rattle.hash_chain.specs.Chain.{nextLink}
 use Rattle.token_scope.specs.Reading.{scopeOf, afterScope}
 use Rattle.token_scope.specs.declared.ScopeParts.{ScopeParts}
 use Rattle.token_scope.specs.declared.ScopeParts.the-variants.{Of as ScopeIs, Bad as NoScope}
 use Rattle.token_scope.proofs.DefectKinds.{ScopeKind, scope-kinds}
 use Rattle.token_caveat.specs.Reading.{caveatOf}
-use Rattle.token_caveat_values.specs.declared.Caveat.{Caveat}
-use Rattle.token_caveat_values.specs.declared.Caveat.the-variants.{Exp, Nbf, Aud, Method, PathPrefix, IpCidr, BytesLe, Rate, Tenant, Amnesia, GovPolicyDigest, Custom}
+use Rattle.token_caveat_values.specs.declared.CaveatAt.{CaveatAt}
+use Rattle.token_caveat_values.specs.declared.CaveatAt.the-variants.{Exp, Nbf, Aud, Method, PathPrefix, IpCidr, BytesLe, Rate, Tenant, Amnesia, GovPolicyDigest, Custom}
 use Rattle.token_caveat_values.specs.declared.CaveatParts.{CaveatParts}
 use Rattle.token_caveat_values.specs.declared.CaveatParts.the-variants.{Of as CaveatIs, Bad as NoCaveat}
 use Rattle.token_caveat.proofs.DefectKinds.{CaveatKind, caveat-kinds}
@@ -30,12 +29,13 @@ use Rattle.records_table.specs.Reading.{tableOk}
 use Rattle.records_request.specs.Reading.{requestOf}
 use Rattle.records_request.specs.declared.RequestParts.{RequestParts}
 use Rattle.records_request.specs.declared.RequestParts.the-variants.{Of as RequestIs, Bad as NoRequest}
-use Rattle.rules_compare.specs.Comparing.{memberAt, prefixFits, limitHolds}
+use Rattle.rules_compare.specs.Comparing.{memberIn, prefixFits, limitHolds}
 use Rattle.rules.specs.Judging.{scopeJudged, caveatHeld, failingOf, caveatJudged}
-use Rattle.rules.specs.declared.Asked.{Asked}
-use Rattle.verify_walk.specs.Walking.{soFar, walkEnds, afterCaveat, walkedThen, walkedOf, scopeKind, scopeThen, scopeAt, tenantThen, linkFirst, keyThen}
-use Rattle.verify.specs.Verifying.{keyFound, keyOf, tokenThen, bytesThen, decodedThen, textThen, requestThen, verifyOf}
-use Rattle.verify_walk.specs.declared.TokenAt.{TokenAt}
+use Rattle.records_request.specs.declared.RequestAt.{RequestAt}
+use Rattle.verify_walk.specs.Walking.{soFar, afterCaveat, overThen, overCaveats, walkBad, walkAdd, walkedOf, scopeKind, scopeThen, scopeAnswered, tenantJudged, linkFirst, keyJudged}
+use Rattle.verify_walk.specs.declared.Walked.{Walked}
+use Rattle.verify.specs.Verifying.{keyFound, keyOf, tokenJudged, bytesJudged, decodedJudged, textJudged, requestJudged, verifyOf}
+use Rattle.token.specs.declared.TokenAt.{TokenAt}
 
 abbrev Low : ℕ → Type 0
 Low n = n < 22
@@ -44,85 +44,87 @@ so-far-low : (a b : ℕ) → Low a → Low b → Low (soFar a b)
 unfolding soFar
 so-far-low a b g h = either Low {x = b} {y = a} (eqb a 0) h g
 
-failing-low : (c : Caveat) → Low (failingOf c)
+failing-low : (c : CaveatAt) → Low (failingOf c)
 unfolding failingOf
 failing-low (Exp n) = omega arith
 failing-low (Nbf n) = omega arith
-failing-low (Aud from to) = omega arith
-failing-low (Method count from to) = omega arith
-failing-low (PathPrefix from to) = omega arith
-failing-low (IpCidr a b c d n) = omega arith
+failing-low (Aud part) = omega arith
+failing-low (Method methods) = omega arith
+failing-low (PathPrefix part) = omega arith
+failing-low (IpCidr network) = omega arith
 failing-low (BytesLe n) = omega arith
 failing-low (Rate per-s burst) = omega arith
-failing-low (Tenant from to) = omega arith
+failing-low (Tenant part) = omega arith
 failing-low (Amnesia on) = omega arith
-failing-low (GovPolicyDigest from to) = omega arith
-failing-low (Custom a b c d e f) = omega arith
+failing-low (GovPolicyDigest part) = omega arith
+failing-low (Custom custom) = omega arith
 
-caveat-low : (s : List ℕ) (c : Caveat) (body : List ℕ) (q : Asked) (tid : List ℕ) → Low (caveatJudged s c body q tid)
+caveat-low : (s : List ℕ) (c : CaveatAt) (body : List ℕ) (q : RequestAt) (tid : List ℕ) → Low (caveatJudged s c body q tid)
 unfolding caveatJudged
 caveat-low s c body q tid = either Low {x = 0} {y = failingOf c} (caveatHeld s c body q tid) (omega arith) (failing-low c)
 
-walked-low : (k : ℕ) (s key body : List ℕ) (q : Asked) (tid : List ℕ) (at : ℕ) (link : List ℕ) (answer : ℕ) → Low answer
-    → Low (walkedOf k s key body q tid at link answer .answer)
-unfolding walkedOf afterCaveat
-walked-low zero s key body q tid at link answer h = h
-walked-low (suc k) s key body q tid at link answer h = by (caveatOf (drop at s)) (caveat-kinds (drop at s)) (walked-low k s key body q tid)
+walked-low : (k : ℕ) (s key body : List ℕ) (q : RequestAt) (tid : List ℕ) (at : ℕ) (found : Walked) → Low (found .answer)
+    → Low (overCaveats walkBad (walkAdd key body q tid) k s at found .answer)
+unfolding overCaveats afterCaveat
+walked-low zero s key body q tid at found h = h
+walked-low (suc k) s key body q tid at found h = by (caveatOf (drop at s)) (caveat-kinds (drop at s)) (walked-low k s key body q tid)
   where
-    by : (c : CaveatParts) → CaveatKind c → ((p : ℕ) (l : List ℕ) (a : ℕ) → Low a → Low (walkedOf k s key body q tid p l a .answer))
-        → Low (afterCaveat (walkEnds link) (walkedThen (walkedOf k s key body q tid) (drop at s) key body q tid at link answer) c .answer)
+    walked : ℕ → Walked → Walked
+    walked = overCaveats walkBad (walkAdd key body q tid) k s
+
+    by : (c : CaveatParts) → CaveatKind c → ((p : ℕ) (w : Walked) → Low (w .answer) → Low (walked p w .answer))
+        → Low (afterCaveat (walkBad found) (overThen walked (walkAdd key body q tid) (drop at s) at found) c .answer)
     by (NoCaveat kind a) g r = omega (arith, g .1)
     by (CaveatIs c next) g r =
-        r (at + next) (nextLink key link (between (drop at s) 0 next)) (soFar answer (caveatJudged (drop at s) c body q tid))
-        (so-far-low answer (caveatJudged (drop at s) c body q tid) h (caveat-low (drop at s) c body q tid))
+        r (at + next) (walkAdd key body q tid found (drop at s) c next)
+        (so-far-low (found .answer) (caveatJudged (drop at s) c body q tid) h (caveat-low (drop at s) c body q tid))
 
-scope-low : (s : List ℕ) (at : ℕ) (body : List ℕ) (q : Asked) → Low (scopeAt s at body q)
-unfolding scopeAt scopeJudged
+scope-low : (s : List ℕ) (at : ℕ) (body : List ℕ) (q : RequestAt) → Low (scopeAnswered s at body q)
+unfolding scopeAnswered scopeJudged
 scope-low s at body q = by (scopeOf s at) (scope-kinds s at)
   where
     by : (p : ScopeParts) → ScopeKind p → Low (afterScope scopeKind (scopeThen s body q) p)
     by (NoScope kind a) g = omega (arith, g .1)
-    by (ScopeIs prefix count from to limit next) g =
-        either Low (memberAt count s (between body (q .method) (q .«method_end»)) from)
-        (either Low (prefixFits s prefix (between body (q .path) (q .«path_end»))) (either Low {x = 0} {y = 12} (limitHolds limit (q .size)) (omega arith) (omega arith)) (omega arith)) (omega arith)
+    by (ScopeIs scope next) g =
+        either Low (memberIn s (scope .methods) (between body (q .method)))
+        (either Low (prefixFits s (scope .prefix) (between body (q .path))) (either Low {x = 0} {y = 12} (limitHolds (scope .«max_bytes») (q .size)) (omega arith) (omega arith)) (omega arith)) (omega arith)
 
-key-low : (key s : List ℕ) (p : TokenAt) (body : List ℕ) (q : Asked) (tenant : List ℕ) → Low (keyThen key s p body q tenant)
-unfolding keyThen tenantThen
-key-low key s p body q tenant =
-    let tid = between s (p .tid) (p .«tid_end») in
-    let w = walkedOf (p .count) s key body q tid (p .from) (linkFirst key s p) 0 in
-    either Low (sameOf (w .link) (between s (p .tag) (p .tag + 32)))
-    (either Low {x = soFar (scopeAt s (p .scope) body q) (w .answer)} {y = 9} (sameOf tid tenant)
-    (so-far-low (scopeAt s (p .scope) body q) (w .answer) (scope-low s (p .scope) body q) (walked-low (p .count) s key body q tid (p .from) (linkFirst key s p) 0 (omega arith)))
+key-low : (key s : List ℕ) (p : TokenAt) (body : List ℕ) (q : RequestAt) → Low (keyJudged key s p body q)
+unfolding keyJudged tenantJudged
+key-low key s p body q =
+    let tid = between s (p .tid) in
+    let w = walkedOf s (p .caveats) key body q tid (linkFirst key s p) in
+    let scope = scopeAnswered s (p .scope .from) body q in
+    either Low (sameOf (w .link) (between s (p .tag)))
+    (either Low {x = soFar scope (w .answer)} {y = 9} (sameOf tid (between body (q .tenant)))
+    (so-far-low scope (w .answer) (scope-low s (p .scope .from) body q) (walked-low (p .caveats .count) s key body q tid (p .caveats .span .from) _ (omega arith)))
     (omega arith)) (omega arith)
 
-bytes-low : (table s body : List ℕ) (q : Asked) (tenant : List ℕ) → Low (bytesThen table s body q tenant)
-unfolding bytesThen tokenThen keyFound
-bytes-low table s body q tenant = by (tokenOf s) refl
+bytes-low : (table s body : List ℕ) (q : RequestAt) → Low (bytesJudged table s body q)
+unfolding bytesJudged tokenJudged keyFound
+bytes-low table s body q = by (tokenOf s) refl
   where
-    by : (p : TokenParts) → tokenOf s ≡ p → Low (tokenThen table s body q tenant p)
+    by : (p : TokenParts) → tokenOf s ≡ p → Low (tokenJudged table s body q p)
     by (NoToken kind a) e = omega (arith, token-kind s e .1)
-    by (TokenIs count from to scope scope-end tag kid kid-end tid tid-end) e =
-        let p : TokenAt = record { count = count; from = from; scope = scope; «scope_end» = scope-end; tag = tag; kid = kid; «kid_end» = kid-end; tid = tid; «tid_end» = tid-end } in
+    by (TokenIs p) e =
         let key = keyOf table s p in
-        either Low {x = keyThen key s p body q tenant} {y = 7} (eqb (length key) 32) (key-low key s p body q tenant) (omega arith)
+        either Low {x = keyJudged key s p body q} {y = 7} (eqb (length key) 32) (key-low key s p body q) (omega arith)
 
-text-low : (table text body : List ℕ) (q : Asked) (tenant : List ℕ) → Low (textThen table text body q tenant)
-unfolding textThen decodedThen
-text-low table text body q tenant =
-    either Low {x = 5} {y = decodedThen table text body q tenant (decodedOf (judgedOf text) 4096)} (ltb 5462 (length text)) (omega arith) (by (decodedOf (judgedOf text) 4096))
+text-low : (table text body : List ℕ) (q : RequestAt) → Low (textJudged table text body q)
+unfolding textJudged decodedJudged
+text-low table text body q =
+    either Low {x = 5} {y = decodedJudged table text body q (decodedOf (judgedOf text) 4096)} (ltb 5462 (length text)) (omega arith) (by (decodedOf (judgedOf text) 4096))
   where
-    by : (d : Decoded) → Low (decodedThen table text body q tenant d)
+    by : (d : Decoded) → Low (decodedJudged table text body q d)
     by (NoText a) = omega arith
     by Short = omega arith
-    by (Bytes n) = bytes-low table (bytesOf text) body q tenant
+    by (Bytes n) = bytes-low table (bytesOf text) body q
 
 pub verify-low : (table request token : List ℕ) → verifyOf table request token < 22
-unfolding verifyOf requestThen
+unfolding verifyOf requestJudged
 verify-low table request token =
-    either Low {x = requestThen table request token (requestOf request)} {y = 1} (tableOk table) (by (requestOf request)) (omega arith)
+    either Low {x = requestJudged table request token (requestOf request)} {y = 1} (tableOk table) (by (requestOf request)) (omega arith)
   where
-    by : (r : RequestParts) → Low (requestThen table request token r)
+    by : (r : RequestParts) → Low (requestJudged table request token r)
     by NoRequest = omega arith
-    by (RequestIs now size skew amnesia peer digest rate method method-end path path-end tenant tenant-end audience) =
-        text-low table token request _ (between request tenant tenant-end)
+    by (RequestIs q) = text-low table token request q

@@ -15,58 +15,40 @@ use Rattle.records_table.specs.Reading.{tableOk, findFrom}
 use Rattle.records_request.specs.Reading.{requestOf}
 use Rattle.records_request.specs.declared.RequestParts.{RequestParts}
 use Rattle.records_request.specs.declared.RequestParts.the-variants.{Of as RequestIs, Bad as NoRequest}
-use Rattle.rules.specs.declared.Asked.{Asked}
-use Rattle.verify_walk.specs.declared.TokenAt.{TokenAt}
-use Rattle.verify_walk.specs.Walking.{keyThen}
+use Rattle.records_request.specs.declared.RequestAt.{RequestAt}
+use Rattle.token.specs.declared.TokenAt.{TokenAt}
+use Rattle.verify_walk.specs.Walking.{keyJudged}
 
 -- 7: keys are 32 bytes, and none is found where there is no such row
-unfoldable pub keyFound : List ℕ → List ℕ → TokenAt → List ℕ → Asked → List ℕ → ℕ
-keyFound key s p body q tenant = pick (eqb (length key) 32) (keyThen key s p body q tenant) 7
+unfoldable pub keyFound : List ℕ → List ℕ → TokenAt → List ℕ → RequestAt → ℕ
+keyFound key s p body q = pick (eqb (length key) 32) (keyJudged key s p body q) 7
 
 abbrev pub keyOf : List ℕ → List ℕ → TokenAt → List ℕ
-keyOf table s p = findFrom 64 table (between s (p .tid) (p .«tid_end»)) (between s (p .kid) (p .«kid_end»)) 0
+keyOf table s p = findFrom 64 table (between s (p .tid)) (between s (p .kid)) 0
 
 -- 4 to 6
-unfoldable pub tokenThen : List ℕ → List ℕ → List ℕ → Asked → List ℕ → TokenParts → ℕ
-tokenThen table s body q tenant (NoToken kind at) = kind
-tokenThen table s body q tenant (TokenIs count from to scope scope-end tag kid kid-end tid tid-end) =
-    let p : TokenAt = record { count = count; from = from; scope = scope; «scope_end» = scope-end; tag = tag; kid = kid; «kid_end» = kid-end; tid = tid; «tid_end» = tid-end } in
-    keyFound (keyOf table s p) s p body q tenant
+unfoldable pub tokenJudged : List ℕ → List ℕ → List ℕ → RequestAt → TokenParts → ℕ
+tokenJudged table s body q (NoToken kind at) = kind
+tokenJudged table s body q (TokenIs p) = keyFound (keyOf table s p) s p body q
 
-unfoldable pub bytesThen : List ℕ → List ℕ → List ℕ → Asked → List ℕ → ℕ
-bytesThen table s body q tenant = tokenThen table s body q tenant (tokenOf s)
+unfoldable pub bytesJudged : List ℕ → List ℕ → List ℕ → RequestAt → ℕ
+bytesJudged table s body q = tokenJudged table s body q (tokenOf s)
 
 -- 3; that the bytes of 5,462 characters do not fit cannot be
-unfoldable pub decodedThen : List ℕ → List ℕ → List ℕ → Asked → List ℕ → Decoded → ℕ
-decodedThen table text body q tenant (NoText at) = 3
-decodedThen table text body q tenant Short = 5
-decodedThen table text body q tenant (Bytes n) = bytesThen table (bytesOf text) body q tenant
+unfoldable pub decodedJudged : List ℕ → List ℕ → List ℕ → RequestAt → Decoded → ℕ
+decodedJudged table text body q (NoText at) = 3
+decodedJudged table text body q Short = 5
+decodedJudged table text body q (Bytes n) = bytesJudged table (bytesOf text) body q
 
 -- "text over 5,462 characters (5)", before any character is looked at
-unfoldable pub textThen : List ℕ → List ℕ → List ℕ → Asked → List ℕ → ℕ
-textThen table text body q tenant = pick (ltb 5462 (length text)) 5 (decodedThen table text body q tenant (decodedOf (judgedOf text) 4096))
+unfoldable pub textJudged : List ℕ → List ℕ → List ℕ → RequestAt → ℕ
+textJudged table text body q = pick (ltb 5462 (length text)) 5 (decodedJudged table text body q (decodedOf (judgedOf text) 4096))
 
 -- 2
-unfoldable pub requestThen : List ℕ → List ℕ → List ℕ → RequestParts → ℕ
-requestThen table body text NoRequest = 2
-requestThen table body text (RequestIs now size skew amnesia peer digest rate method method-end path path-end tenant tenant-end audience) =
-    let q : Asked =
-    record {
-      time = now;
-      size = size;
-      skew = skew;
-      amnesia = amnesia;
-      peer = peer;
-      digest = digest;
-      rate = rate;
-      method = method;
-      «method_end» = method-end;
-      path = path;
-      «path_end» = path-end;
-      audience = audience;
-    } in
-    textThen table text body q (between body tenant tenant-end)
+unfoldable pub requestJudged : List ℕ → List ℕ → List ℕ → RequestParts → ℕ
+requestJudged table body text NoRequest = 2
+requestJudged table body text (RequestIs q) = textJudged table text body q
 
 -- 1
 unfoldable pub verifyOf : List ℕ → List ℕ → List ℕ → ℕ
-verifyOf table request token = pick (tableOk table) (requestThen table request token (requestOf request)) 1
+verifyOf table request token = pick (tableOk table) (requestJudged table request token (requestOf request)) 1

@@ -1,57 +1,34 @@
 // Tokens judged: verify takes any bytes, judges them itself, and answers a number of the one list, in
 // document 01's order.
+use records_request::RequestAt;
 use records_request::RequestParts;
-use rules::Asked;
 use text_reading::Decoded;
 use token::TokenParts;
-use verify_walk::TokenAt;
 ghost use mathlib.Core.Path.{_≡_};
 ghost use Prim.Native.Nat.{_≤_};
 ghost use lib.ListN.{length};
-ghost use Rattle.verify.specs.Verifying.{bytesThen, textThen, verifyOf};
+ghost use Rattle.verify.specs.Verifying.{bytesJudged, textJudged, verifyOf};
 
-fn judge_bytes(table: &[u8], s: &[u8], body: &[u8], asked: Asked, tenant: &[u8]) -> u32
+fn judge_bytes(table: &[u8], s: &[u8], body: &[u8], request: RequestAt) -> u32
     requires { ⌜ length (now s) ≤ 4096 ⌝ }
-    ensures { λ r. ⌜ r ≡ bytesThen (now (table .entry)) (now (s .entry)) (now (body .entry)) asked (now (tenant .entry)) ⌝ }
+    ensures { λ r. ⌜ r ≡ bytesJudged (now (table .entry)) (now (s .entry)) (now (body .entry)) request ⌝ }
 {
     match token::read_token(s) {
         TokenParts::Bad { kind, at: _ } => kind,
-        TokenParts::Of {
-            count,
-            from,
-            to: _,
-            scope,
-            scope_end,
-            tag,
-            kid,
-            kid_end,
-            tid,
-            tid_end,
-        } => {
-            let tid_bytes = basis::part(s, tid, tid_end);
-            let kid_bytes = basis::part(s, kid, kid_end);
-            let key = records_table::find(table, tid_bytes, kid_bytes);
+        TokenParts::Of { token } => {
+            let tid = token.tid;
+            let kid = token.kid;
+            let key = records_table::find(table, basis::lend(s, tid), basis::lend(s, kid));
             if key.len() == 32 {
-                let at = TokenAt {
-                    count,
-                    from,
-                    scope,
-                    scope_end,
-                    tag,
-                    kid,
-                    kid_end,
-                    tid,
-                    tid_end,
-                };
-                return verify_walk::with_key(key, s, at, body, asked, tenant);
+                return verify_walk::with_key(key, s, token, body, request);
             }
             7
         }
     }
 }
 
-fn judge_text(table: &[u8], text: &[u8], body: &[u8], asked: Asked, tenant: &[u8]) -> u32
-    ensures { λ r. ⌜ r ≡ textThen (now (table .entry)) (now (text .entry)) (now (body .entry)) asked (now (tenant .entry)) ⌝ }
+fn judge_text(table: &[u8], text: &[u8], body: &[u8], request: RequestAt) -> u32
+    ensures { λ r. ⌜ r ≡ textJudged (now (table .entry)) (now (text .entry)) (now (body .entry)) request ⌝ }
 {
     if 5462 < text.len() {
         return 5;
@@ -60,7 +37,7 @@ fn judge_text(table: &[u8], text: &[u8], body: &[u8], asked: Asked, tenant: &[u8
     match text_reading::decode(text, &mut room) {
         Decoded::Bad { at: _ } => 3,
         Decoded::Short => 5,
-        Decoded::Bytes { n } => judge_bytes(table, &room[0..n], body, asked, tenant),
+        Decoded::Bytes { n } => judge_bytes(table, &room[0..n], body, request),
     }
 }
 
@@ -70,44 +47,7 @@ pub fn verify(table: &[u8], request: &[u8], token: &[u8]) -> u32
     if records_table::table_ok(table) {
         return match records_request::read_request(request) {
             RequestParts::Bad => 2,
-            RequestParts::Of {
-                now: time,
-                size,
-                skew,
-                amnesia,
-                peer,
-                digest,
-                rate,
-                method,
-                method_end,
-                path,
-                path_end,
-                tenant,
-                tenant_end,
-                audience,
-            } => {
-                let asked = Asked {
-                    time,
-                    size,
-                    skew,
-                    amnesia,
-                    peer,
-                    digest,
-                    rate,
-                    method,
-                    method_end,
-                    path,
-                    path_end,
-                    audience,
-                };
-                judge_text(
-                    table,
-                    token,
-                    request,
-                    asked,
-                    basis::part(request, tenant, tenant_end),
-                )
-            }
+            RequestParts::Of { request: asked } => judge_text(table, token, request, asked),
         };
     }
     1

@@ -2,22 +2,22 @@
 use mathlib.Core.Path.{_≡_}
 use mathlib.Core.Bool.{true, false}
 use mathlib.Core.List.{List}
-use Prim.Native.Nat.{ℕ, _+_}
+use Prim.Native.Nat.{ℕ}
 use native.Mathlib.Omega.{arith}
 use borrow.Author.Tests.{eq-eqb, ne-eqb}
 use lib.ListN.{length-drop, length-take}
 use Rattle.basis.specs.Basis.{between}
 use Rattle.basis.specs.Same.{sameOf}
-use Rattle.hash_chain.specs.Chain.{firstLink, FirstOf}
-use Rattle.rules.specs.declared.Asked.{Asked}
-use Rattle.verify_walk.specs.Walking.{soFar, walkedOf, scopeAt, tenantThen, tagThen, keyThen}
+use Rattle.hash_chain.specs.Chain.{FirstOf}
+use Rattle.records_request.specs.declared.RequestAt.{RequestAt}
+use Rattle.token.specs.declared.TokenAt.{TokenAt}
+use Rattle.verify_walk.specs.Walking.{soFar, walkedOf, scopeAnswered, tenantJudged, tagJudged, linkFirst, keyJudged}
 use Rattle.verify_walk.specs.Ready.{Ready}
 use Rattle.verify_walk.specs.declared.Walked.{Walked}
-use Rattle.verify_walk.specs.declared.TokenAt.{TokenAt}
 
-pub first-ready : (key s : List ℕ) (p : TokenAt) (tid kid scope : List ℕ) → Ready key s p → tid ≡ between s (p .tid) (p .«tid_end»)
-    → kid ≡ between s (p .kid) (p .«kid_end») → scope ≡ between s (p .scope) (p .«scope_end») → FirstOf key tid kid scope
-first-ready key s p tid kid scope w et ek es =
+pub first-ready : (key s : List ℕ) (p : TokenAt) {tid kid scope : List ℕ} → Ready key s p → tid ≡ between s (p .tid) → kid ≡ between s (p .kid) → scope ≡ between s (p .scope)
+    → FirstOf key tid kid scope
+first-ready key s p w et ek es =
     let l = w .walkable .short in
     record {
       keyed = w .walkable .key-long;
@@ -26,34 +26,32 @@ first-ready key s p tid kid scope w et ek es =
       scoped = rw es (simp (length-take, length-drop) (omega arith));
     }
 
-module _ (key s : List ℕ) (p : TokenAt) (body : List ℕ) (q : Asked) (tenant : List ℕ) {tid kid scope first tag : List ℕ} {w : Walked}
-    (et : tid ≡ between s (p .tid) (p .«tid_end»)) (ek : kid ≡ between s (p .kid) (p .«kid_end»)) (es : scope ≡ between s (p .scope) (p .«scope_end»))
-    (ef : first ≡ firstLink key tid kid scope) (ew : w ≡ walkedOf (p .count) s key body q tid (p .from) first 0)
-    (eg : tag ≡ between s (p .tag) (p .tag + 32)) where
-  whole : tagThen tag tid tenant (scopeAt s (p .scope) body q) w ≡ keyThen key s p body q tenant
-  unfolding keyThen
-  whole = rw (eg, ew, ef, et, ek, es)
+module _ (key s : List ℕ) (p : TokenAt) (body : List ℕ) (q : RequestAt) {tid first tag : List ℕ} {w : Walked} (et : tid ≡ between s (p .tid))
+    (ef : first ≡ linkFirst key s p) (ew : w ≡ walkedOf s (p .caveats) key body q tid first) (eg : tag ≡ between s (p .tag)) where
+  whole : tagJudged tag tid (between body (q .tenant)) (scopeAnswered s (p .scope .from) body q) w ≡ keyJudged key s p body q
+  unfolding keyJudged
+  whole = rw (eg, ew, ef, et)
 
-  pub other-tag : sameOf (w .link) tag ≡ false → 8 ≡ keyThen key s p body q tenant
+  pub other-tag : sameOf (w .link) tag ≡ false → 8 ≡ keyJudged key s p body q
   other-tag e = rw e at whole
 
-  module _ (e : sameOf (w .link) tag ≡ true) where
-    right-tag : tenantThen tid tenant (scopeAt s (p .scope) body q) (w .answer) ≡ keyThen key s p body q tenant
-    right-tag = rw e at whole
+  module _ (e : sameOf (w .link) tag ≡ true) {tenant : List ℕ} (en : tenant ≡ between body (q .tenant)) where
+    right-tag : tenantJudged tid tenant (scopeAnswered s (p .scope .from) body q) (w .answer) ≡ keyJudged key s p body q
+    right-tag = rw en (rw e at whole)
 
-    pub other-tenant : sameOf tid tenant ≡ false → 9 ≡ keyThen key s p body q tenant
-    unfolding tenantThen
+    pub other-tenant : sameOf tid tenant ≡ false → 9 ≡ keyJudged key s p body q
+    unfolding tenantJudged
     other-tenant f = rw f at right-tag
 
-    module _ (f : sameOf tid tenant ≡ true) {answer : ℕ} (g : answer ≡ scopeAt s (p .scope) body q) where
-      own-tenant : soFar answer (w .answer) ≡ keyThen key s p body q tenant
-      unfolding tenantThen
+    module _ (f : sameOf tid tenant ≡ true) {answer : ℕ} (g : answer ≡ scopeAnswered s (p .scope .from) body q) where
+      own-tenant : soFar answer (w .answer) ≡ keyJudged key s p body q
+      unfolding tenantJudged
       own-tenant = rw (f, ← g) at right-tag
 
-      pub scope-fails : (answer ≡ 0 → ⊥) → answer ≡ keyThen key s p body q tenant
+      pub scope-fails : (answer ≡ 0 → ⊥) → answer ≡ keyJudged key s p body q
       unfolding soFar
       scope-fails h = rw (ne-eqb answer 0 h) at own-tenant
 
-      pub scope-holds : answer ≡ 0 → w .answer ≡ keyThen key s p body q tenant
+      pub scope-holds : answer ≡ 0 → w .answer ≡ keyJudged key s p body q
       unfolding soFar
       scope-holds h = rw (eq-eqb answer 0 h) at own-tenant

@@ -4,7 +4,7 @@ use mathlib.Core.List.{List}
 use Prim.Native.Nat.{ℕ, _≤_}
 use lib.ListN.{length}
 use Rattle.basis.specs.Basis.{between}
-use Rattle.verify_walk.specs.declared.TokenAt.{TokenAt}
+use Rattle.token.specs.declared.TokenAt.{TokenAt}
 
 pub record Walkable (key s : List ℕ) : Type 0 where
   pub key-long : length key ≡ 32
@@ -12,5 +12,5 @@ pub record Walkable (key s : List ℕ) : Type 0 where
 
 pub record Ready (key s : List ℕ) (p : TokenAt) : Type 0 where
   pub walkable : Walkable key s
-  pub tid-short : length (between s (p .tid) (p .«tid_end»)) ≤ 64
-  pub kid-short : length (between s (p .kid) (p .«kid_end»)) ≤ 64
+  pub tid-short : length (between s (p .tid)) ≤ 64
+  pub kid-short : length (between s (p .kid)) ≤ 64

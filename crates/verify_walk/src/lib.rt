@@ -1,13 +1,18 @@
 // A token whose key is found: one walk reads, hashes and judges its caveats where they lie; then the tag decides
 // first, and behind it tenant, scope and caveats.
-use rules::Asked;
-use token_caveat_values::Caveat;
+use basis::Span;
+use cbor_values::ListAt;
+use records_request::RequestAt;
+use token::TokenAt;
+use token_caveat_values::CaveatAt;
 use token_caveat_values::CaveatParts;
 use token_scope::ScopeParts;
 ghost use mathlib.Core.Path.{_≡_};
+ghost use Rattle.basis.specs.Basis.{fromTo, between};
 ghost use Rattle.basis.specs.Same.{sameOf};
+ghost use Rattle.hash_chain.specs.Chain.{nextLink, NextOf};
 ghost use Rattle.rules.specs.Judging.{caveatJudged};
-ghost use Rattle.verify_walk.specs.Walking.{soFar, walkedOf, scopeAt, keyThen};
+ghost use Rattle.verify_walk.specs.Walking.{linksOf, soFar, walkedOf, scopeAnswered, linkFirst, keyJudged};
 ghost use Rattle.verify_walk.specs.Ready.{Walkable, Ready};
 
 // The last link, and the answer of the first caveat that fails.
@@ -16,25 +21,53 @@ pub struct Walked {
     pub answer: u32,
 }
 
-// Where the parts of a token lie.
-pub struct TokenAt {
-    pub count: u64,
-    pub from: usize,
-    pub scope: usize,
-    pub scope_end: usize,
-    pub tag: usize,
-    pub kid: usize,
-    pub kid_end: usize,
-    pub tid: usize,
-    pub tid_end: usize,
+// A caveat is hashed as it lies, from its first byte on: no code writes it anew.
+fn link_over(key: &[u8], link: [u8; 32], part: &[u8], next: usize) -> [u8; 32]
+    requires { ⌜ NextOf (now key) (between (now part) (fromTo 0 next)) ⌝ }
+    ensures { λ r. ⌜ r ≡ nextLink (now (key .entry)) link (between (now (part .entry)) (fromTo 0 next)) ⌝ }
+{
+    let caveat = Span { from: 0, to: next };
+    hash_chain::next_link(key, link, basis::lend(part, caveat))
+}
+
+// The last link of a token's chain, over the caveats where they lie.
+pub fn links(s: &[u8], caveats: ListAt, key: &[u8], first: [u8; 32]) -> [u8; 32]
+    requires { ⌜ Walkable (now key) (now s) ⌝ }
+    ensures { λ r. ⌜ r ≡ linksOf (now (s .entry)) caveats (now (key .entry)) first ⌝ }
+{
+    let mut p = basis::least(caveats.span.from, s.len());
+    let mut k = caveats.count;
+    let mut link = first;
+    while 0 < k {
+        let part = &s[p..];
+        match token_caveat::read_caveat(part) {
+            CaveatParts::Bad { kind: _, at: _ } => {
+                return link;
+            }
+            CaveatParts::Of { caveat: _, next } => {
+                let joined = link_over(key, link, part, next);
+                link = joined;
+                p += next;
+            }
+        }
+        k -= 1;
+    }
+    link
 }
 
 // The first answer that is not 0 stays; no later caveat is judged.
-fn so_far(answer: u32, part: &[u8], caveat: Caveat, body: &[u8], asked: Asked, tid: &[u8]) -> u32
-    ensures { λ r. ⌜ r ≡ soFar answer (caveatJudged (now (part .entry)) caveat (now (body .entry)) asked (now (tid .entry))) ⌝ }
+fn so_far(
+    answer: u32,
+    part: &[u8],
+    caveat: CaveatAt,
+    body: &[u8],
+    request: RequestAt,
+    tid: &[u8],
+) -> u32
+    ensures { λ r. ⌜ r ≡ soFar answer (caveatJudged (now (part .entry)) caveat (now (body .entry)) request (now (tid .entry))) ⌝ }
 {
     if answer == 0 {
-        return rules::caveat_answer(part, caveat, body, asked, tid);
+        return rules::caveat_answer(part, caveat, body, request, tid);
     }
     answer
 }
@@ -42,56 +75,44 @@ fn so_far(answer: u32, part: &[u8], caveat: Caveat, body: &[u8], asked: Asked, t
 // One walk over the caveats: each is read, hashed and judged where it lies.
 fn walk(
     s: &[u8],
-    from: usize,
-    count: u64,
+    caveats: ListAt,
     key: &[u8],
     first: [u8; 32],
     body: &[u8],
-    asked: Asked,
+    request: RequestAt,
     tid: &[u8],
 ) -> Walked
     requires { ⌜ Walkable (now key) (now s) ⌝ }
-    ensures { λ r. ⌜ r ≡ walkedOf count (now (s .entry)) (now (key .entry)) (now (body .entry)) asked (now (tid .entry)) from first 0 ⌝ }
+    ensures { λ r. ⌜ r ≡ walkedOf (now (s .entry)) caveats (now (key .entry)) (now (body .entry)) request (now (tid .entry)) first ⌝ }
 {
-    let mut p = from;
-    let mut k = count;
+    let mut p = basis::least(caveats.span.from, s.len());
+    let mut left = caveats.count;
     let mut link = first;
     let mut answer: u32 = 0;
-    while 0 < k {
-        let part = &s[basis::least(p, s.len())..];
+    while 0 < left {
+        let part = &s[p..];
         match token_caveat::read_caveat(part) {
             CaveatParts::Bad { kind, at: _ } => {
                 return Walked { link, answer: kind };
             }
             CaveatParts::Of { caveat, next } => {
-                let joined = hash_chain::next_link(key, link, basis::part(part, 0, next));
+                let joined = link_over(key, link, part, next);
                 link = joined;
-                answer = so_far(answer, part, caveat, body, asked, tid);
+                answer = so_far(answer, part, caveat, body, request, tid);
                 p += next;
             }
         }
-        k -= 1;
+        left -= 1;
     }
     Walked { link, answer }
 }
 
-fn scope_at(s: &[u8], at: usize, body: &[u8], asked: Asked) -> u32
-    ensures { λ r. ⌜ r ≡ scopeAt (now (s .entry)) at (now (body .entry)) asked ⌝ }
+fn scope_answered(s: &[u8], at: usize, body: &[u8], request: RequestAt) -> u32
+    ensures { λ r. ⌜ r ≡ scopeAnswered (now (s .entry)) at (now (body .entry)) request ⌝ }
 {
     match token_scope::read_scope(s, at) {
         ScopeParts::Bad { kind, at: _ } => kind,
-        ScopeParts::Of {
-            prefix,
-            count,
-            from,
-            to: _,
-            max_bytes,
-            next: _,
-        } => {
-            let method = basis::part(body, asked.method, asked.method_end);
-            let path = basis::part(body, asked.path, asked.path_end);
-            rules::scope_answer(s, prefix, count, from, max_bytes, method, path, asked.size)
-        }
+        ScopeParts::Of { scope, next: _ } => rules::scope_answer(s, scope, body, request),
     }
 }
 
@@ -113,21 +134,38 @@ pub fn same_tag(link: [u8; 32], tag: &[u8]) -> bool
     same
 }
 
-// With the key: the tag over all its bytes, the tenant, the scope, the caveats.
-pub fn with_key(key: &[u8], s: &[u8], at: TokenAt, body: &[u8], asked: Asked, tenant: &[u8]) -> u32
-    requires { ⌜ Ready (now key) (now s) at ⌝ }
-    ensures { λ r. ⌜ r ≡ keyThen (now (key .entry)) (now (s .entry)) at (now (body .entry)) asked (now (tenant .entry)) ⌝ }
+// The link that the chain of a token begins with.
+pub fn link_first(key: &[u8], s: &[u8], token: TokenAt) -> [u8; 32]
+    requires { ⌜ Ready (now key) (now s) token ⌝ }
+    ensures { λ r. ⌜ r ≡ linkFirst (now (key .entry)) (now (s .entry)) token ⌝ }
 {
-    let tid = basis::part(s, at.tid, at.tid_end);
-    let kid = basis::part(s, at.kid, at.kid_end);
-    let first = hash_chain::first_link(key, tid, kid, basis::part(s, at.scope, at.scope_end));
-    let walked = walk(s, at.from, at.count, key, first, body, asked, tid);
+    let tid = token.tid;
+    let kid = token.kid;
+    let scope = token.scope;
+    hash_chain::first_link(
+        key,
+        basis::lend(s, tid),
+        basis::lend(s, kid),
+        basis::lend(s, scope),
+    )
+}
+
+// With the key: the tag over all its bytes, the tenant, the scope, the caveats.
+pub fn with_key(key: &[u8], s: &[u8], token: TokenAt, body: &[u8], request: RequestAt) -> u32
+    requires { ⌜ Ready (now key) (now s) token ⌝ }
+    ensures { λ r. ⌜ r ≡ keyJudged (now (key .entry)) (now (s .entry)) token (now (body .entry)) request ⌝ }
+{
+    let caveats = token.caveats;
+    let tag = token.tag;
+    let id = token.tid;
+    let asker = request.tenant;
+    let tid = basis::lend(s, id);
+    let first = link_first(key, s, token);
+    let walked = walk(s, caveats, key, first, body, request, tid);
     let link = walked.link;
-    let tagged = same_tag(link, basis::run(s, at.tag, 32));
-    let own = basis::same(tid, tenant);
-    if tagged {
-        if own {
-            let scope = scope_at(s, at.scope, body, asked);
+    if same_tag(link, basis::lend(s, tag)) {
+        if basis::same(tid, basis::lend(body, asker)) {
+            let scope = scope_answered(s, token.scope.from, body, request);
             if scope == 0 {
                 return walked.answer;
             }

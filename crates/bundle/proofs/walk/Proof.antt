@@ -7,17 +7,17 @@ use Rattle.bundle.proofs.walk.Statement.{statement}
 use Rattle.bundle.proofs.walk.Tie as tie
 use Rattle.bundle.proofs.walk.Reads as reads
 use Rattle.bundle.proofs.walk.Lts as lts
-use Rattle.basis.proofs.part.Reads as part-reads
+use Rattle.basis.proofs.lend.Reads as lend-reads
 use Rattle.bundle.proofs.put_line.Reads as put-line-reads
 use Rattle.verify.proofs.verify.Reads as verify-reads
 use Rattle.records.proofs.record_at.Reads as record-at-reads
 use Rattle.cbor_writing.proofs.put_at.Reads as put-at-reads
 
 abbrev Inv-loop : tie.InvT-loop
-Inv-loop input room₀ p₀ n₀ t₀ t-end₀ q₀ q-end₀ t15 t16 room p n t t-end q q-end = Going input room₀ room p n t t-end q q-end
+Inv-loop input room₀ p₀ n₀ table₀ request₀ t11 t12 room p n table request = Going input room₀ room p n table request
 
 abbrev μ-loop : tie.MeasureT-loop
-μ-loop input room₀ p₀ n₀ t₀ t-end₀ q₀ q-end₀ t15 t16 room p n t t-end q q-end = length input - p
+μ-loop input room₀ p₀ n₀ table₀ request₀ t11 t12 room p n table request = length input - p
 
 loop-holds : tie.Need-loop-holds Inv-loop μ-loop
 loop-holds c = going-none _ _ (c .before .before .pre .0)
@@ -40,53 +40,53 @@ same-length c = c .before .before .put-at .kept .0 ∙ c .before .before .before
 returns : tie.Need-returns Inv-loop μ-loop
 returns c = cut (c .before .before .before .before .before .before .before .before .before .loop .inv) (c .before .before .before .before .before .before .before .before .before .before .before .before .pre .1) (c .before .before .before .before .before .before .before .before .loop-test .taken) (sym (c .before .before .before .before .before .before .before .record-at .ensures) ∙ c .before .before .before .before .before .enum-told .given .1) (c .before .before .put-at .ensures)
 
-enum-known-kind : tie.Need-enum-known-kind Inv-loop μ-loop
-enum-known-kind c = search needs
+enum-known-record : tie.Need-enum-known-record Inv-loop μ-loop
+enum-known-record c = search needs
 
-part-requires : tie.Need-part-requires Inv-loop μ-loop
-part-requires c κs = search needs
+lend-requires : tie.Need-lend-requires Inv-loop μ-loop
+lend-requires c κs = search needs
 
-part-requires-2 : tie.Need-part-requires-2 Inv-loop μ-loop
-part-requires-2 c κs = search needs
+lend-requires-2 : tie.Need-lend-requires-2 Inv-loop μ-loop
+lend-requires-2 c κs = search needs
 
-part-requires-3 : tie.Need-part-requires-3 Inv-loop μ-loop
-part-requires-3 c κs = search needs
+lend-requires-3 : tie.Need-lend-requires-3 Inv-loop μ-loop
+lend-requires-3 c κs = search needs
 
 verify-requires : tie.Need-verify-requires Inv-loop μ-loop
 verify-requires c κs = search needs
 
 put-line-requires : tie.Need-put-line-requires Inv-loop μ-loop
-put-line-requires c κs = token-fits (c .before .before .before .before .before .before .before .before .before .before .before .before .before .loop .inv) (c .before .before .before .before .before .before .before .before .before .before .before .before .before .before .before .before .pre .1) (c .before .before .before .before .before .before .before .before .before .before .before .before .loop-test .taken) (sym (c .before .before .before .before .before .before .before .before .before .before .before .record-at .ensures) ∙ c .before .before .before .before .before .before .before .before .before .kind .given .1) _
+put-line-requires c κs = token-fits (c .before .before .before .before .before .before .before .before .before .before .before .before .before .before .loop .inv) (c .before .before .before .before .before .before .before .before .before .before .before .before .before .before .before .before .before .pre .1) (c .before .before .before .before .before .before .before .before .before .before .before .before .before .loop-test .taken) (sym (c .before .before .before .before .before .before .before .before .before .before .before .before .record-at .ensures) ∙ c .before .before .before .before .before .before .before .before .before .before .«record» .given .1) _
 
 slice-aggregate-put-at-2 : tie.Need-slice-aggregate-put-at-2 Inv-loop μ-loop
 slice-aggregate-put-at-2 c = search needs
 
 put-at-requires-2 : tie.Need-put-at-requires-2 Inv-loop μ-loop
-put-at-requires-2 c κs = stop-fits (c .before .before .before .before .before .before .before .before .before .before .loop .inv) (c .before .before .before .before .before .before .before .before .before .before .before .before .before .pre .1) (c .before .before .before .before .before .before .before .before .before .loop-test .taken)
+put-at-requires-2 c κs = stop-fits (c .before .before .before .before .before .before .before .before .before .before .before .loop .inv) (c .before .before .before .before .before .before .before .before .before .before .before .before .before .before .pre .1) (c .before .before .before .before .before .before .before .before .before .before .loop-test .taken)
 
 same-length-2 : tie.Need-same-length-2 Inv-loop μ-loop
-same-length-2 c = c .before .before .put-at2 .kept .0 ∙ c .before .before .before .before .before .before .before .before .before .before .before .before .before .loop .inv .long
+same-length-2 c = c .before .before .put-at2 .kept .0 ∙ c .before .before .before .before .before .before .before .before .before .before .before .before .before .before .loop .inv .long
 
 returns-2 : tie.Need-returns-2 Inv-loop μ-loop
-returns-2 c = other (c .before .before .before .before .before .before .before .before .before .before .before .before .before .loop .inv) (c .before .before .before .before .before .before .before .before .before .before .before .before .before .before .before .before .pre .1) (c .before .before .before .before .before .before .before .before .before .before .before .before .loop-test .taken) (sym (c .before .before .before .before .before .before .before .before .before .before .before .record-at .ensures) ∙ c .before .before .before .before .before .before .before .before .before .kind .given .1) (c .before .before .before .before .before .before .before .if1 .left) (c .before .before .before .before .before .before .if2 .left) (c .before .before .before .before .before .if3 .left) (c .before .before .put-at2 .ensures)
+returns-2 c = other (c .before .before .before .before .before .before .before .before .before .before .before .before .before .before .loop .inv) (c .before .before .before .before .before .before .before .before .before .before .before .before .before .before .before .before .before .pre .1) (c .before .before .before .before .before .before .before .before .before .before .before .before .before .loop-test .taken) (sym (c .before .before .before .before .before .before .before .before .before .before .before .before .record-at .ensures) ∙ c .before .before .before .before .before .before .before .before .before .before .«record» .given .1) (c .before .before .before .before .before .before .before .if1 .left) (c .before .before .before .before .before .before .if2 .left) (c .before .before .before .before .before .if3 .left) (c .before .before .put-at2 .ensures)
 
 loop-less : tie.Need-loop-less Inv-loop μ-loop
-loop-less c = falls (c .before .before .before .before .before .before .loop .inv) (c .before .before .before .before .before .before .before .before .before .pre .1) (c .before .before .before .before .before .loop-test .taken) (sym (c .before .before .before .before .record-at .ensures) ∙ c .before .before .kind .given .1) (λ i. c .before .before .before .before .before .before .before .before .shared-slice-known .given i .fits)
+loop-less c = falls (c .before .before .before .before .before .before .before .loop .inv) (c .before .before .before .before .before .before .before .before .before .before .pre .1) (c .before .before .before .before .before .before .loop-test .taken) (sym (c .before .before .before .before .before .record-at .ensures) ∙ c .before .before .before .«record» .given .1) (λ i. c .before .before .before .before .before .before .before .before .before .shared-slice-known .given i .fits)
 
 loop-again : tie.Need-loop-again Inv-loop μ-loop
-loop-again c = table-one (c .before .before .before .before .before .before .loop .inv) (c .before .before .before .before .before .before .before .before .before .pre .1) (c .before .before .before .before .before .loop-test .taken) (sym (c .before .before .before .before .record-at .ensures) ∙ c .before .before .kind .given .1) (λ i. c .before .before .before .before .before .before .before .before .shared-slice-known .given i .fits) (c .if1 .taken)
+loop-again c = table-one (c .before .before .before .before .before .before .before .loop .inv) (c .before .before .before .before .before .before .before .before .before .before .pre .1) (c .before .before .before .before .before .before .loop-test .taken) (sym (c .before .before .before .before .before .record-at .ensures) ∙ c .before .before .before .«record» .given .1) (λ i. c .before .before .before .before .before .before .before .before .before .shared-slice-known .given i .fits) (c .if1 .taken)
 
 loop-less-2 : tie.Need-loop-less-2 Inv-loop μ-loop
-loop-less-2 c = falls (c .before .before .before .before .before .before .before .loop .inv) (c .before .before .before .before .before .before .before .before .before .before .pre .1) (c .before .before .before .before .before .before .loop-test .taken) (sym (c .before .before .before .before .before .record-at .ensures) ∙ c .before .before .before .kind .given .1) (λ i. c .before .before .before .before .before .before .before .before .before .shared-slice-known .given i .fits)
+loop-less-2 c = falls (c .before .before .before .before .before .before .before .before .loop .inv) (c .before .before .before .before .before .before .before .before .before .before .before .pre .1) (c .before .before .before .before .before .before .before .loop-test .taken) (sym (c .before .before .before .before .before .before .record-at .ensures) ∙ c .before .before .before .before .«record» .given .1) (λ i. c .before .before .before .before .before .before .before .before .before .before .shared-slice-known .given i .fits)
 
 loop-again-2 : tie.Need-loop-again-2 Inv-loop μ-loop
-loop-again-2 c = request-one (c .before .before .before .before .before .before .before .loop .inv) (c .before .before .before .before .before .before .before .before .before .before .pre .1) (c .before .before .before .before .before .before .loop-test .taken) (sym (c .before .before .before .before .before .record-at .ensures) ∙ c .before .before .before .kind .given .1) (λ i. c .before .before .before .before .before .before .before .before .before .shared-slice-known .given i .fits) (c .before .if1 .left) (c .if2 .taken)
+loop-again-2 c = request-one (c .before .before .before .before .before .before .before .before .loop .inv) (c .before .before .before .before .before .before .before .before .before .before .before .pre .1) (c .before .before .before .before .before .before .before .loop-test .taken) (sym (c .before .before .before .before .before .before .record-at .ensures) ∙ c .before .before .before .before .«record» .given .1) (λ i. c .before .before .before .before .before .before .before .before .before .before .shared-slice-known .given i .fits) (c .before .if1 .left) (c .if2 .taken)
 
 loop-less-3 : tie.Need-loop-less-3 Inv-loop μ-loop
-loop-less-3 c = falls (c .before .before .before .before .before .before .before .before .before .before .before .before .before .before .before .before .loop .inv) (c .before .before .before .before .before .before .before .before .before .before .before .before .before .before .before .before .before .before .before .pre .1) (c .before .before .before .before .before .before .before .before .before .before .before .before .before .before .before .loop-test .taken) (sym (c .before .before .before .before .before .before .before .before .before .before .before .before .before .before .record-at .ensures) ∙ c .before .before .before .before .before .before .before .before .before .before .before .before .kind .given .1) (λ i. c .before .before .before .before .before .before .before .before .before .before .before .before .before .before .before .before .before .before .shared-slice-known .given i .fits)
+loop-less-3 c = falls (c .before .before .before .before .before .before .before .before .before .before .before .before .before .before .before .before .before .loop .inv) (c .before .before .before .before .before .before .before .before .before .before .before .before .before .before .before .before .before .before .before .before .pre .1) (c .before .before .before .before .before .before .before .before .before .before .before .before .before .before .before .before .loop-test .taken) (sym (c .before .before .before .before .before .before .before .before .before .before .before .before .before .before .before .record-at .ensures) ∙ c .before .before .before .before .before .before .before .before .before .before .before .before .before .«record» .given .1) (λ i. c .before .before .before .before .before .before .before .before .before .before .before .before .before .before .before .before .before .before .before .shared-slice-known .given i .fits)
 
 loop-again-3 : tie.Need-loop-again-3 Inv-loop μ-loop
-loop-again-3 c = token-one (c .before .before .before .before .before .before .before .before .before .before .before .before .before .before .before .before .loop .inv) (c .before .before .before .before .before .before .before .before .before .before .before .before .before .before .before .before .before .before .before .pre .1) (c .before .before .before .before .before .before .before .before .before .before .before .before .before .before .before .loop-test .taken) (sym (c .before .before .before .before .before .before .before .before .before .before .before .before .before .before .record-at .ensures) ∙ c .before .before .before .before .before .before .before .before .before .before .before .before .kind .given .1) (λ i. c .before .before .before .before .before .before .before .before .before .before .before .before .before .before .before .before .before .before .shared-slice-known .given i .fits) (c .before .before .before .before .before .before .before .before .before .before .if1 .left) (c .before .before .before .before .before .before .before .before .before .if2 .left) (c .before .before .before .before .before .before .before .before .if3 .taken) (c .before .before .before .before .before .before .before .part .ensures .0) (c .before .before .before .before .before .before .part2 .ensures .0) (c .before .before .before .before .before .part3 .ensures .0) (c .before .before .before .before .verify .ensures) (c .before .before .put-line .ensures)
+loop-again-3 c = token-one (c .before .before .before .before .before .before .before .before .before .before .before .before .before .before .before .before .before .loop .inv) (c .before .before .before .before .before .before .before .before .before .before .before .before .before .before .before .before .before .before .before .before .pre .1) (c .before .before .before .before .before .before .before .before .before .before .before .before .before .before .before .before .loop-test .taken) (sym (c .before .before .before .before .before .before .before .before .before .before .before .before .before .before .before .record-at .ensures) ∙ c .before .before .before .before .before .before .before .before .before .before .before .before .before .«record» .given .1) (λ i. c .before .before .before .before .before .before .before .before .before .before .before .before .before .before .before .before .before .before .before .shared-slice-known .given i .fits) (c .before .before .before .before .before .before .before .before .before .before .if1 .left) (c .before .before .before .before .before .before .before .before .before .if2 .left) (c .before .before .before .before .before .before .before .before .if3 .taken) (c .before .before .before .before .before .before .before .lend .ensures .0) (c .before .before .before .before .before .before .lend2 .ensures .0) (c .before .before .before .before .before .lend3 .ensures .0) (c .before .before .before .before .verify .ensures) (c .before .before .put-line .ensures)
 
 same-length-3 : tie.Need-same-length-3 Inv-loop μ-loop
 same-length-3 c = c .before .loop .inv .long
@@ -107,10 +107,10 @@ walk-spec =
     put-at-requires
     same-length
     returns
-    enum-known-kind
-    part-requires
-    part-requires-2
-    part-requires-3
+    enum-known-record
+    lend-requires
+    lend-requires-2
+    lend-requires-3
     verify-requires
     put-line-requires
     slice-aggregate-put-at-2

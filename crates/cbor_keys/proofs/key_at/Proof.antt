@@ -11,10 +11,10 @@ use Rattle.cbor_keys.proofs.key_index.Reads as key-index-reads
 use Rattle.cbor_strings.proofs.read_run.Reads as read-run-reads
 
 -- the string that holds the key
-run : (c : tie.After-known-told2) → (let a = c .before .before .before .before .before .args in Found (a .s .now) (a .at) 3 0 0xffffffffffffffff (c .before .from .given .0 .0) (c .before .from .given .0 .1 .0))
+run : (c : tie.After-known-told2) → (let a = c .before .before .before .before .before .args in Found (a .s .now) (a .at) 3 0 0xffffffffffffffff (c .before .span .given .0 .0))
 run c =
     let a = c .before .before .before .before .before .args in
-    found (a .s .now) (a .at) 3 0 0xffffffffffffffff (sym (c .before .before .before .read-run .ensures) ∙ c .before .from .given .1)
+    found (a .s .now) (a .at) 3 0 0xffffffffffffffff (sym (c .before .before .before .read-run .ensures) ∙ c .before .span .given .1)
 
 read-run-requires : tie.Need-read-run-requires
 read-run-requires c κs = search needs
@@ -22,8 +22,8 @@ read-run-requires c κs = search needs
 enum-known-kind : tie.Need-enum-known-kind
 enum-known-kind c = search needs
 
-enum-known-from : tie.Need-enum-known-from
-enum-known-from c = search needs
+enum-known-span : tie.Need-enum-known-span
+enum-known-span c = search needs
 
 sub-key-index : tie.Need-sub-key-index
 sub-key-index c = run c .order
@@ -39,7 +39,7 @@ key-index-requires c κs = search needs
 
 returns : tie.Need-returns
 unfolding knownBy keyBy
-returns c = rw (sym (c .before .before .before .before .before .before .read-run .ensures) ∙ c .before .before .before .before .from .given .1, eq-eqb _ _ (sym (c .before .key-index .ensures) ∙ c .if1 .taken))
+returns c = rw (sym (c .before .before .before .before .before .before .read-run .ensures) ∙ c .before .before .before .before .span .given .1, eq-eqb _ _ (sym (c .before .key-index .ensures) ∙ c .if1 .taken))
 
 returns-2 : tie.Need-returns-2
 unfolding knownBy keyBy
@@ -47,7 +47,7 @@ returns-2 c = rw (sym (c .before .before .before .read-run .ensures) ∙ c .befo
 
 returns-3 : tie.Need-returns-3
 unfolding knownBy keyBy
-returns-3 c = rw (sym (c .before .before .before .before .before .before .read-run .ensures) ∙ c .before .before .before .before .from .given .1, sym (c .before .key-index .ensures), ne-eqb _ _ (c .if1 .left))
+returns-3 c = rw (sym (c .before .before .before .before .before .before .read-run .ensures) ∙ c .before .before .before .before .span .given .1, sym (c .before .key-index .ensures), ne-eqb _ _ (c .if1 .left))
 
 pub key-at-spec : {M : Type 1} → statement M
 key-at-spec =
@@ -55,7 +55,7 @@ key-at-spec =
     (tie.spec
     read-run-requires
     enum-known-kind
-    enum-known-from
+    enum-known-span
     sub-key-index
     part-key-index-start
     part-key-index-end

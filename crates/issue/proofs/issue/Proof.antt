@@ -1,5 +1,5 @@
 use mathlib.Core.Path.{sym, _∙_}
-use Rattle.outcome.proofs.Handings.{refused-is, moved}
+use Rattle.outcome.proofs.Carrying.{refused-is, moved}
 use Rattle.issue.proofs.Fresh.{issuable, issue-bad-table, issue-bad-scope, issue-left-over, issue-found}
 use borrow.Author.Needs.{needs}
 use Rattle.issue.proofs.issue.Statement.{statement}

@@ -1,7 +1,7 @@
 use Prim.Native.Nat.{ℕ}
 use native.Mathlib.Omega.{arith}
 use lib.ListN.{length-replicate, length-take}
-use Rattle.outcome.proofs.Handings.{refused-is, moved, said-inside, made-lent}
+use Rattle.outcome.proofs.Carrying.{refused-is, moved, said-inside, made-lent}
 use Rattle.issue.proofs.Fresh.{first-of, fresh-fits, issued, key-missing}
 use borrow.Author.Needs.{needs}
 use Rattle.issue.proofs.issue_with.Statement.{statement}

@@ -1,5 +1,5 @@
 use mathlib.Core.Path.{sym, _∙_}
-use Rattle.outcome.proofs.Handings.{refused-is, moved}
+use Rattle.outcome.proofs.Carrying.{refused-is, moved}
 use Rattle.narrow.proofs.Narrowed.{narrow-bad-table, narrow-good-table}
 use borrow.Author.Needs.{needs}
 use Rattle.narrow.proofs.narrow.Statement.{statement}

@@ -1,7 +1,7 @@
 use Prim.Native.Nat.{ℕ}
 use lib.ListN.{length-replicate}
 use Rattle.verify.proofs.Decoding.{bytes-fit, bytes-lent, lent-short}
-use Rattle.outcome.proofs.Handings.{refused-is, moved}
+use Rattle.outcome.proofs.Carrying.{refused-is, moved}
 use Rattle.narrow.proofs.Narrowed.{narrow-too-long, narrow-not-text, narrow-no-room, narrow-whole}
 use borrow.Author.Needs.{needs}
 use Rattle.narrow.proofs.narrow_text.Statement.{statement}

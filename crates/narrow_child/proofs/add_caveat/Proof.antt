@@ -1,15 +1,12 @@
 use mathlib.Core.Path.{sym, _∙_}
 use native.Mathlib.Omega.{arith}
-use Rattle.outcome.proofs.Handings.{refused-is, moved}
-use Rattle.narrow_child.proofs.Growing.{caveat-bad, caveat-left-over, caveat-whole, kind-small}
+use Rattle.outcome.proofs.Carrying.{refused-is, moved}
+use Rattle.narrow_child.proofs.Child.{caveat-bad, caveat-left-over, caveat-whole, kind-small}
 use borrow.Author.Needs.{needs}
 use Rattle.narrow_child.proofs.add_caveat.Statement.{statement}
 use Rattle.narrow_child.proofs.add_caveat.Tie as tie
 use Rattle.narrow_child.proofs.add_caveat.Reads as reads
 use Rattle.narrow_child.proofs.add_caveat.Lts as lts
-use Rattle.token_caveat.proofs.read_caveat.Reads as read-caveat-reads
-use Rattle.narrow_child.proofs.grow.Reads as grow-reads
-use Rattle.outcome.proofs.refusal.Reads as refusal-reads
 
 read-caveat-requires : tie.Need-read-caveat-requires
 read-caveat-requires c κs = search needs
@@ -26,23 +23,23 @@ refusal-requires c κs = search needs
 enum-known-next : tie.Need-enum-known-next
 enum-known-next c = search needs
 
-grow-requires : tie.Need-grow-requires
-grow-requires c κs = search needs
+write-child-requires : tie.Need-write-child-requires
+write-child-requires c κs = search needs
 
 same-length : tie.Need-same-length
 same-length c = search needs
 
 returns : tie.Need-returns
-returns c = moved (caveat-whole (c .before .before .before .before .before .before .before .before .before .before .before .before .before .before .args .key .now) (c .before .before .before .before .before .before .before .before .before .before .before .before .before .before .args .link) (c .before .before .before .before .before .before .before .before .before .before .before .before .before .before .args .s .now) (c .before .before .before .before .before .before .before .before .before .before .before .before .before .before .args .at) (c .before .before .before .before .before .before .before .before .before .before .before .before .before .before .args .caveats .now) (c .before .before .before .before .before .before .before .before .before .before .before .before .before .before .args .caveat .now) (sym (c .before .before .before .before .before .before .before .before .read-caveat .ensures) ∙ c .before .before .before .before .before .before .next .given .1) (c .before .before .before .before .if1 .taken)) (c .before .before .grow .ensures)
+returns c = moved (caveat-whole (c .before .before .before .before .before .before .before .before .before .before .before .before .before .args .key .now) (c .before .before .before .before .before .before .before .before .before .before .before .before .before .args .link) (c .before .before .before .before .before .before .before .before .before .before .before .before .before .args .s .now) (c .before .before .before .before .before .before .before .before .before .before .before .before .before .args .parent) (c .before .before .before .before .before .before .before .before .before .before .before .before .before .args .caveat .now) (sym (c .before .before .before .before .before .before .before .before .read-caveat .ensures) ∙ c .before .before .before .before .before .before .next .given .1) (c .before .before .before .before .if1 .taken)) (c .before .before .write-child .ensures)
 
 refusal-requires-2 : tie.Need-refusal-requires-2
 refusal-requires-2 c κs = search needs
 
 returns-2 : tie.Need-returns-2
-returns-2 c = moved (caveat-bad (c .before .before .before .before .before .before .before .before .before .before .args .key .now) (c .before .before .before .before .before .before .before .before .before .before .args .link) (c .before .before .before .before .before .before .before .before .before .before .args .s .now) (c .before .before .before .before .before .before .before .before .before .before .args .at) (c .before .before .before .before .before .before .before .before .before .before .args .caveats .now) (c .before .before .before .before .before .before .before .before .before .before .args .caveat .now) (sym (c .before .before .before .before .read-caveat .ensures) ∙ c .before .before .kind .given .1)) (refused-is (c .refusal .ensures))
+returns-2 c = moved (caveat-bad (c .before .before .before .before .before .before .before .before .before .args .key .now) (c .before .before .before .before .before .before .before .before .before .args .link) (c .before .before .before .before .before .before .before .before .before .args .s .now) (c .before .before .before .before .before .before .before .before .before .args .parent) (c .before .before .before .before .before .before .before .before .before .args .caveat .now) (sym (c .before .before .before .before .read-caveat .ensures) ∙ c .before .before .kind .given .1)) (refused-is (c .refusal .ensures))
 
 returns-3 : tie.Need-returns-3
-returns-3 c = moved (caveat-left-over (c .before .before .before .before .before .before .before .before .before .before .before .args .key .now) (c .before .before .before .before .before .before .before .before .before .before .before .args .link) (c .before .before .before .before .before .before .before .before .before .before .before .args .s .now) (c .before .before .before .before .before .before .before .before .before .before .before .args .at) (c .before .before .before .before .before .before .before .before .before .before .before .args .caveats .now) (c .before .before .before .before .before .before .before .before .before .before .before .args .caveat .now) (sym (c .before .before .before .before .before .read-caveat .ensures) ∙ c .before .before .before .next .given .1) (c .before .if1 .left)) (refused-is (c .refusal2 .ensures))
+returns-3 c = moved (caveat-left-over (c .before .before .before .before .before .before .before .before .before .before .args .key .now) (c .before .before .before .before .before .before .before .before .before .before .args .link) (c .before .before .before .before .before .before .before .before .before .before .args .s .now) (c .before .before .before .before .before .before .before .before .before .before .args .parent) (c .before .before .before .before .before .before .before .before .before .before .args .caveat .now) (sym (c .before .before .before .before .before .read-caveat .ensures) ∙ c .before .before .before .next .given .1) (c .before .if1 .left)) (refused-is (c .refusal2 .ensures))
 
 pub add-caveat-spec : {M : Type 1} → statement M
 add-caveat-spec =
@@ -53,7 +50,7 @@ add-caveat-spec =
     add-refusal
     refusal-requires
     enum-known-next
-    grow-requires
+    write-child-requires
     same-length
     returns
     refusal-requires-2

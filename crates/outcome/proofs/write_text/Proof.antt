@@ -1,4 +1,4 @@
-use Rattle.outcome.proofs.Handings.{text-handed, none-handed, count-fits}
+use Rattle.outcome.proofs.Carrying.{text-carried, none-carried, count-fits}
 use borrow.Author.Needs.{needs}
 use Rattle.outcome.proofs.write_text.Statement.{statement}
 use Rattle.outcome.proofs.write_text.Tie as tie
@@ -26,13 +26,13 @@ same-length : tie.Need-same-length
 same-length c = search needs
 
 returns : tie.Need-returns
-returns c = none-handed _ _ (c .before .before .before .before .before .encode .ensures) (c .before .enum-told .given .1) (c .refusal .ensures)
+returns c = none-carried _ _ (c .before .before .before .before .before .encode .ensures) (c .before .enum-told .given .1) (c .refusal .ensures)
 
 same-length-2 : tie.Need-same-length-2
 same-length-2 c = search needs
 
 returns-2 : tie.Need-returns-2
-returns-2 c = text-handed _ _ (c .before .before .before .before .before .encode .ensures) (c .before .n .given .1)
+returns-2 c = text-carried _ _ (c .before .before .before .before .before .encode .ensures) (c .before .n .given .1)
 
 pub write-text-spec : {M : Type 1} → statement M
 write-text-spec =

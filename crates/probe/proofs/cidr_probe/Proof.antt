@@ -7,44 +7,44 @@ use Rattle.probe.proofs.cidr_probe.Lts as lts
 enum-known-p : tie.Need-enum-known-p
 enum-known-p c = search needs
 
-cast-t8 : tie.Need-cast-t8
-cast-t8 c = search needs
+cast-t4 : tie.Need-cast-t4
+cast-t4 c = search needs
 
-mul-t9 : tie.Need-mul-t9
-mul-t9 c = search needs
+mul-t5 : tie.Need-mul-t5
+mul-t5 c = search needs
 
-cast-t10 : tie.Need-cast-t10
-cast-t10 c = search needs
+cast-t6 : tie.Need-cast-t6
+cast-t6 c = search needs
 
-add-t11 : tie.Need-add-t11
-add-t11 c = search needs
+add-t7 : tie.Need-add-t7
+add-t7 c = search needs
 
-mul-t12 : tie.Need-mul-t12
-mul-t12 c = search needs
+mul-t8 : tie.Need-mul-t8
+mul-t8 c = search needs
 
-cast-t13 : tie.Need-cast-t13
-cast-t13 c = search needs
+cast-t9 : tie.Need-cast-t9
+cast-t9 c = search needs
 
-add-t14 : tie.Need-add-t14
-add-t14 c = search needs
+add-t10 : tie.Need-add-t10
+add-t10 c = search needs
 
-mul-t15 : tie.Need-mul-t15
-mul-t15 c = search needs
+mul-t11 : tie.Need-mul-t11
+mul-t11 c = search needs
 
-cast-t16 : tie.Need-cast-t16
-cast-t16 c = search needs
+cast-t12 : tie.Need-cast-t12
+cast-t12 c = search needs
 
-add-t17 : tie.Need-add-t17
-add-t17 c = search needs
+add-t13 : tie.Need-add-t13
+add-t13 c = search needs
 
-cast-t18 : tie.Need-cast-t18
-cast-t18 c = search needs
+cast-t14 : tie.Need-cast-t14
+cast-t14 c = search needs
 
 enum-told : tie.Need-enum-told
 enum-told c = search needs
 
 returns : tie.Need-returns
-returns c = rw (c .before .p .given .1)
+returns c = rw (c .before .before .before .before .before .before .p .given .1)
 
 returns-2 : tie.Need-returns-2
 returns-2 c = rw (c .enum-told .given .1)
@@ -54,17 +54,17 @@ cidr-probe-spec =
     tie.close
     (tie.spec
     enum-known-p
-    cast-t8
-    mul-t9
-    cast-t10
-    add-t11
-    mul-t12
-    cast-t13
-    add-t14
-    mul-t15
-    cast-t16
-    add-t17
-    cast-t18
+    cast-t4
+    mul-t5
+    cast-t6
+    add-t7
+    mul-t8
+    cast-t9
+    add-t10
+    mul-t11
+    cast-t12
+    add-t13
+    cast-t14
     enum-told
     returns
     returns-2)

@@ -27,8 +27,8 @@ enum-known-caveat-6 c = search needs
 address-of-requires : tie.Need-address-of-requires
 address-of-requires c κs = search needs
 
-cast-t49 : tie.Need-cast-t49
-cast-t49 c = search needs
+cast-t34 : tie.Need-cast-t34
+cast-t34 c = search needs
 
 enum-known-caveat-7 : tie.Need-enum-known-caveat-7
 enum-known-caveat-7 c = search needs
@@ -67,7 +67,7 @@ returns-5 : tie.Need-returns-5
 returns-5 c = rw (c .before .caveat5 .given .1)
 
 returns-6 : tie.Need-returns-6
-returns-6 c = rw (c .before .before .caveat6 .given .1, c .address-of .ensures)
+returns-6 c = rw (c .before .before .before .caveat6 .given .1, c .before .address-of .ensures)
 
 returns-7 : tie.Need-returns-7
 returns-7 c = rw (c .before .caveat7 .given .1)
@@ -98,7 +98,7 @@ demand-probe-spec =
     enum-known-caveat-5
     enum-known-caveat-6
     address-of-requires
-    cast-t49
+    cast-t34
     enum-known-caveat-7
     enum-known-caveat-8
     enum-known-caveat-9

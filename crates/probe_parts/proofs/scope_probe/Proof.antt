@@ -31,10 +31,10 @@ returns : tie.Need-returns
 returns c = rw (c .before .before .p .given .1) (c .refused .ensures)
 
 returns-2 : tie.Need-returns-2
-returns-2 c = rw (c .before .before .before .before .p2 .given .1, c .before .enum-told .given .1) (c .limit-probe .ensures)
+returns-2 c = rw (c .before .before .before .before .before .p2 .given .1, c .before .enum-told .given .1) (c .limit-probe .ensures)
 
 returns-3 : tie.Need-returns-3
-returns-3 c = rw (c .before .before .before .before .before .p2 .given .1, c .before .before .prefix .given .1) (c .limit-probe2 .ensures)
+returns-3 c = rw (c .before .before .before .before .before .before .p2 .given .1, c .before .before .prefix .given .1) (c .limit-probe2 .ensures)
 
 pub scope-probe-spec : {M : Type 1} → statement M
 scope-probe-spec =

@@ -4,10 +4,8 @@ use Rattle.probe_records.proofs.request_probe.Statement.{statement}
 use Rattle.probe_records.proofs.request_probe.Tie as tie
 use Rattle.probe_records.proofs.request_probe.Reads as reads
 use Rattle.probe_records.proofs.request_probe.Lts as lts
-use Rattle.probe_records.proofs.audience_probe.Reads as audience-probe-reads
 use Rattle.probe_records.proofs.bit_of.Reads as bit-of-reads
-use Rattle.probe_records.proofs.digest_probe.Reads as digest-probe-reads
-use Rattle.probe_records.proofs.peer_probe.Reads as peer-probe-reads
+use Rattle.probe_records.proofs.part_probe.Reads as part-probe-reads
 use Rattle.probe_records.proofs.rate_probe.Reads as rate-probe-reads
 
 enum-told : tie.Need-enum-told
@@ -16,17 +14,17 @@ enum-told c = search needs
 enum-known-p : tie.Need-enum-known-p
 enum-known-p c = search needs
 
-peer-probe-requires : tie.Need-peer-probe-requires
-peer-probe-requires c κs = search needs
+part-probe-requires : tie.Need-part-probe-requires
+part-probe-requires c κs = search needs
 
-digest-probe-requires : tie.Need-digest-probe-requires
-digest-probe-requires c κs = search needs
+part-probe-requires-2 : tie.Need-part-probe-requires-2
+part-probe-requires-2 c κs = search needs
 
 rate-probe-requires : tie.Need-rate-probe-requires
 rate-probe-requires c κs = search needs
 
-audience-probe-requires : tie.Need-audience-probe-requires
-audience-probe-requires c κs = search needs
+part-probe-requires-3 : tie.Need-part-probe-requires-3
+part-probe-requires-3 c κs = search needs
 
 bit-of-requires : tie.Need-bit-of-requires
 bit-of-requires c κs = search needs
@@ -41,10 +39,10 @@ returns-2 : tie.Need-returns-2
 returns-2 c =
     rw (
       c .before .before .before .before .before .before .p .given .1,
-      sym (c .before .before .before .before .peer-probe .ensures),
-      sym (c .before .before .before .digest-probe .ensures),
+      sym (c .before .before .before .before .part-probe .ensures),
+      sym (c .before .before .before .part-probe2 .ensures),
       sym (c .before .before .rate-probe .ensures),
-      sym (c .before .audience-probe .ensures),
+      sym (c .before .part-probe3 .ensures),
       sym (c .bit-of .ensures),
     )
 
@@ -54,10 +52,10 @@ request-probe-spec =
     (tie.spec
     enum-told
     enum-known-p
-    peer-probe-requires
-    digest-probe-requires
+    part-probe-requires
+    part-probe-requires-2
     rate-probe-requires
-    audience-probe-requires
+    part-probe-requires-3
     bit-of-requires
     cast-on
     returns

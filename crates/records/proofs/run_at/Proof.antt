@@ -1,6 +1,6 @@
-use borrow.Author.Needs.{needs}
-use borrow.Author.Tests.{lt-ltb, le-ltb}
+use borrow.Author.Tests.{le-ltb, lt-ltb}
 use Rattle.records.specs.Records.{runAt}
+use borrow.Author.Needs.{needs}
 use Rattle.records.proofs.run_at.Statement.{statement}
 use Rattle.records.proofs.run_at.Tie as tie
 use Rattle.records.proofs.run_at.Reads as reads
@@ -25,4 +25,11 @@ unfolding runAt
 returns-3 c = rw (le-ltb _ _ (c .before .if1 .left), le-ltb _ _ (c .if2 .left))
 
 pub run-at-spec : {M : Type 1} → statement M
-run-at-spec = tie.close (tie.spec returns sub-if2 returns-2 add-t6 returns-3)
+run-at-spec =
+    tie.close
+    (tie.spec
+    returns
+    sub-if2
+    returns-2
+    add-t6
+    returns-3)

@@ -1,6 +1,7 @@
-use mathlib.Core.Path.{sym, _∙_}
-use borrow.Author.Needs.{needs}
+use mathlib.Core.Path.{sym, ap, _∙_}
 use Rattle.records_request.specs.Reading.{extrasNext, fixedThen}
+use Rattle.records_request.specs.declared.RequestParts.the-variants.{Of}
+use borrow.Author.Needs.{needs}
 use Rattle.records_request.proofs.behind_fixed.Statement.{statement}
 use Rattle.records_request.proofs.behind_fixed.Tie as tie
 use Rattle.records_request.proofs.behind_fixed.Reads as reads
@@ -14,8 +15,8 @@ extras-at-requires c κs = search needs
 enum-told : tie.Need-enum-told
 enum-told c = search needs
 
-enum-known-peer : tie.Need-enum-known-peer
-enum-known-peer c = search needs
+enum-known-extras : tie.Need-enum-known-extras
+enum-known-extras c = search needs
 
 strings-at-requires : tie.Need-strings-at-requires
 strings-at-requires c κs = search needs
@@ -23,8 +24,11 @@ strings-at-requires c κs = search needs
 enum-told-2 : tie.Need-enum-told-2
 enum-told-2 c = search needs
 
-enum-known-method : tie.Need-enum-known-method
-enum-known-method c = search needs
+enum-known-strings : tie.Need-enum-known-strings
+enum-known-strings c = search needs
+
+all-of-requires : tie.Need-all-of-requires
+all-of-requires c κs = search needs
 
 returns : tie.Need-returns
 unfolding extrasNext fixedThen
@@ -32,11 +36,11 @@ returns c = rw (sym (c .before .before .extras-at .ensures) ∙ c .enum-told .gi
 
 returns-2 : tie.Need-returns-2
 unfolding extrasNext fixedThen
-returns-2 c = rw (sym (c .before .before .before .before .before .before .extras-at .ensures) ∙ c .before .before .before .before .peer .given .1, sym (c .before .before .strings-at .ensures) ∙ c .enum-told2 .given .1)
+returns-2 c = rw (sym (c .before .before .before .before .before .before .extras-at .ensures) ∙ c .before .before .before .before .extras .given .1, sym (c .before .before .strings-at .ensures) ∙ c .enum-told2 .given .1)
 
 returns-3 : tie.Need-returns-3
 unfolding extrasNext fixedThen
-returns-3 c = rw (sym (c .before .before .before .before .before .before .before .extras-at .ensures) ∙ c .before .before .before .before .before .peer .given .1, sym (c .before .before .before .strings-at .ensures) ∙ c .before .method .given .1)
+returns-3 c = rw (sym (c .before .before .before .before .before .before .before .before .extras-at .ensures) ∙ c .before .before .before .before .before .before .extras .given .1, sym (c .before .before .before .before .strings-at .ensures) ∙ c .before .before .strings .given .1) (ap Of (c .all-of .ensures))
 
 pub behind-fixed-spec : {M : Type 1} → statement M
 behind-fixed-spec =
@@ -44,10 +48,11 @@ behind-fixed-spec =
     (tie.spec
     extras-at-requires
     enum-told
-    enum-known-peer
+    enum-known-extras
     strings-at-requires
     enum-told-2
-    enum-known-method
+    enum-known-strings
+    all-of-requires
     returns
     returns-2
     returns-3)

@@ -1,6 +1,6 @@
 use mathlib.Core.Path.{sym, _∙_}
-use borrow.Author.Needs.{needs}
 use Rattle.records_request.specs.Reading.{digestNext, peerNext, extrasAt}
+use borrow.Author.Needs.{needs}
 use Rattle.records_request.proofs.extras_at.Statement.{statement}
 use Rattle.records_request.proofs.extras_at.Tie as tie
 use Rattle.records_request.proofs.extras_at.Reads as reads

@@ -1,7 +1,7 @@
 use mathlib.Core.Path.{sym, _∙_}
-use borrow.Author.Needs.{needs}
 use borrow.Author.Tests.{eq-eqb, ne-eqb}
 use Rattle.records_request.specs.Reading.{peerAt}
+use borrow.Author.Needs.{needs}
 use Rattle.records_request.proofs.peer_at.Statement.{statement}
 use Rattle.records_request.proofs.peer_at.Tie as tie
 use Rattle.records_request.proofs.peer_at.Reads as reads
@@ -18,8 +18,8 @@ run-at-requires c κs = search needs
 enum-told : tie.Need-enum-told
 enum-told c = search needs
 
-enum-known-from : tie.Need-enum-known-from
-enum-known-from c = search needs
+enum-known-span : tie.Need-enum-known-span
+enum-known-span c = search needs
 
 returns-2 : tie.Need-returns-2
 unfolding peerAt
@@ -27,8 +27,15 @@ returns-2 c = rw (ne-eqb _ _ (c .before .before .before .if1 .left), sym (c .bef
 
 returns-3 : tie.Need-returns-3
 unfolding peerAt
-returns-3 c = rw (ne-eqb _ _ (c .before .before .before .before .if1 .left), sym (c .before .before .before .run-at .ensures) ∙ c .before .from .given .1)
+returns-3 c = rw (ne-eqb _ _ (c .before .before .before .before .if1 .left), sym (c .before .before .before .run-at .ensures) ∙ c .before .span .given .1)
 
 pub peer-at-spec : {M : Type 1} → statement M
 peer-at-spec =
-    tie.close (tie.spec returns run-at-requires enum-told enum-known-from returns-2 returns-3)
+    tie.close
+    (tie.spec
+    returns
+    run-at-requires
+    enum-told
+    enum-known-span
+    returns-2
+    returns-3)

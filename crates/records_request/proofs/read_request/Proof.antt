@@ -1,6 +1,6 @@
 use mathlib.Core.Path.{sym, _∙_}
-use borrow.Author.Needs.{needs}
 use Rattle.records_request.specs.Reading.{requestOf}
+use borrow.Author.Needs.{needs}
 use Rattle.records_request.proofs.read_request.Statement.{statement}
 use Rattle.records_request.proofs.read_request.Tie as tie
 use Rattle.records_request.proofs.read_request.Reads as reads
@@ -14,8 +14,8 @@ fixed-at-requires c κs = search needs
 enum-told : tie.Need-enum-told
 enum-told c = search needs
 
-enum-known-now : tie.Need-enum-known-now
-enum-known-now c = search needs
+enum-known-numbers : tie.Need-enum-known-numbers
+enum-known-numbers c = search needs
 
 behind-fixed-requires : tie.Need-behind-fixed-requires
 behind-fixed-requires c κs = search needs
@@ -26,9 +26,15 @@ returns c = rw (sym (c .before .before .fixed-at .ensures) ∙ c .enum-told .giv
 
 returns-2 : tie.Need-returns-2
 unfolding requestOf
-returns-2 c = rw (sym (c .before .before .before .before .fixed-at .ensures) ∙ c .before .before .now .given .1) (c .behind-fixed .ensures)
+returns-2 c = rw (sym (c .before .before .before .before .fixed-at .ensures) ∙ c .before .before .numbers .given .1) (c .behind-fixed .ensures)
 
 pub read-request-spec : {M : Type 1} → statement M
 read-request-spec =
     tie.close
-    (tie.spec fixed-at-requires enum-told enum-known-now behind-fixed-requires returns returns-2)
+    (tie.spec
+    fixed-at-requires
+    enum-told
+    enum-known-numbers
+    behind-fixed-requires
+    returns
+    returns-2)

@@ -1,7 +1,7 @@
 use mathlib.Core.Path.{sym, _∙_}
-use borrow.Author.Needs.{needs}
-use borrow.Author.Tests.{lt-ltb, le-ltb}
+use borrow.Author.Tests.{le-ltb, lt-ltb}
 use Rattle.records_request.specs.Reading.{endThen, tenantThen, pathThen, methodThen, stringsAt}
+use borrow.Author.Needs.{needs}
 use Rattle.records_request.proofs.strings_at.Statement.{statement}
 use Rattle.records_request.proofs.strings_at.Tie as tie
 use Rattle.records_request.proofs.strings_at.Reads as reads

@@ -37,41 +37,41 @@ part-result-end c = search needs
 returns : tie.Need-returns Inv-loop μ-loop
 returns c = hands-none _ _ _ _ _ (c .before .before .before .before .before .loop .inv) _ (c .before .before .before .before .loop-test .taken) (sym (c .before .before .before .row-at .ensures) ∙ c .before .enum-told .given .1)
 
-enum-known-t : tie.Need-enum-known-t Inv-loop μ-loop
-enum-known-t c = search needs
+enum-known-row : tie.Need-enum-known-row Inv-loop μ-loop
+enum-known-row c = search needs
 
 sub-same-ids : tie.Need-sub-same-ids Inv-loop μ-loop
-sub-same-ids c = row-read (c .before .before .before .before .before .before .before .before .before .args .table .now) (λ i. c .before .before .before .before .before .before .before .before .shared-slice-known .given i .fits) _ _ _ _ _ _ (sym (c .before .before .before .row-at .ensures) ∙ c .before .t .given .1) .tid-order
+sub-same-ids c = row-read (c .before .before .before .before .before .before .before .before .before .args .table .now) (λ i. c .before .before .before .before .before .before .before .before .shared-slice-known .given i .fits) _ (sym (c .before .before .before .row-at .ensures) ∙ c .before .row .given .1) .ids .tid-order
 
 part-same-ids-start : tie.Need-part-same-ids-start Inv-loop μ-loop
-part-same-ids-start c = row-read (c .before .before .before .before .before .before .before .before .before .args .table .now) (λ i. c .before .before .before .before .before .before .before .before .shared-slice-known .given i .fits) _ _ _ _ _ _ (sym (c .before .before .before .row-at .ensures) ∙ c .before .t .given .1) .tid-order
+part-same-ids-start c = row-read (c .before .before .before .before .before .before .before .before .before .args .table .now) (λ i. c .before .before .before .before .before .before .before .before .shared-slice-known .given i .fits) _ (sym (c .before .before .before .row-at .ensures) ∙ c .before .row .given .1) .ids .tid-order
 
 part-same-ids-end : tie.Need-part-same-ids-end Inv-loop μ-loop
-part-same-ids-end c = row-read (c .before .before .before .before .before .before .before .before .before .args .table .now) (λ i. c .before .before .before .before .before .before .before .before .shared-slice-known .given i .fits) _ _ _ _ _ _ (sym (c .before .before .before .row-at .ensures) ∙ c .before .t .given .1) .tid-inside
+part-same-ids-end c = row-read (c .before .before .before .before .before .before .before .before .before .args .table .now) (λ i. c .before .before .before .before .before .before .before .before .shared-slice-known .given i .fits) _ (sym (c .before .before .before .row-at .ensures) ∙ c .before .row .given .1) .ids .tid-inside
 
 sub-same-ids-2 : tie.Need-sub-same-ids-2 Inv-loop μ-loop
-sub-same-ids-2 c = row-read (c .before .before .before .before .before .before .before .before .before .before .args .table .now) (λ i. c .before .before .before .before .before .before .before .before .before .shared-slice-known .given i .fits) _ _ _ _ _ _ (sym (c .before .before .before .before .row-at .ensures) ∙ c .before .before .t .given .1) .kid-order
+sub-same-ids-2 c = row-read (c .before .before .before .before .before .before .before .before .before .before .args .table .now) (λ i. c .before .before .before .before .before .before .before .before .before .shared-slice-known .given i .fits) _ (sym (c .before .before .before .before .row-at .ensures) ∙ c .before .before .row .given .1) .ids .kid-order
 
 part-same-ids-start-2 : tie.Need-part-same-ids-start-2 Inv-loop μ-loop
-part-same-ids-start-2 c = row-read (c .before .before .before .before .before .before .before .before .before .before .args .table .now) (λ i. c .before .before .before .before .before .before .before .before .before .shared-slice-known .given i .fits) _ _ _ _ _ _ (sym (c .before .before .before .before .row-at .ensures) ∙ c .before .before .t .given .1) .kid-order
+part-same-ids-start-2 c = row-read (c .before .before .before .before .before .before .before .before .before .before .args .table .now) (λ i. c .before .before .before .before .before .before .before .before .before .shared-slice-known .given i .fits) _ (sym (c .before .before .before .before .row-at .ensures) ∙ c .before .before .row .given .1) .ids .kid-order
 
 part-same-ids-end-2 : tie.Need-part-same-ids-end-2 Inv-loop μ-loop
-part-same-ids-end-2 c = row-read (c .before .before .before .before .before .before .before .before .before .before .args .table .now) (λ i. c .before .before .before .before .before .before .before .before .before .shared-slice-known .given i .fits) _ _ _ _ _ _ (sym (c .before .before .before .before .row-at .ensures) ∙ c .before .before .t .given .1) .kid-inside
+part-same-ids-end-2 c = row-read (c .before .before .before .before .before .before .before .before .before .before .args .table .now) (λ i. c .before .before .before .before .before .before .before .before .before .shared-slice-known .given i .fits) _ (sym (c .before .before .before .before .row-at .ensures) ∙ c .before .before .row .given .1) .ids .kid-inside
 
 same-ids-requires : tie.Need-same-ids-requires Inv-loop μ-loop
 same-ids-requires c κs = search needs
 
 sub-result-2 : tie.Need-sub-result-2 Inv-loop μ-loop
-sub-result-2 c = row-read (c .before .before .before .before .before .before .before .before .before .before .before .before .before .args .table .now) (λ i. c .before .before .before .before .before .before .before .before .before .before .before .before .shared-slice-known .given i .fits) _ _ _ _ _ _ (sym (c .before .before .before .before .before .before .before .row-at .ensures) ∙ c .before .before .before .before .before .t .given .1) .key-order
+sub-result-2 c = row-read (c .before .before .before .before .before .before .before .before .before .before .before .before .before .args .table .now) (λ i. c .before .before .before .before .before .before .before .before .before .before .before .before .shared-slice-known .given i .fits) _ (sym (c .before .before .before .before .before .before .before .row-at .ensures) ∙ c .before .before .before .before .before .row .given .1) .key-order
 
 part-result-start-2 : tie.Need-part-result-start-2 Inv-loop μ-loop
-part-result-start-2 c = row-read (c .before .before .before .before .before .before .before .before .before .before .before .before .before .args .table .now) (λ i. c .before .before .before .before .before .before .before .before .before .before .before .before .shared-slice-known .given i .fits) _ _ _ _ _ _ (sym (c .before .before .before .before .before .before .before .row-at .ensures) ∙ c .before .before .before .before .before .t .given .1) .key-order
+part-result-start-2 c = row-read (c .before .before .before .before .before .before .before .before .before .before .before .before .before .args .table .now) (λ i. c .before .before .before .before .before .before .before .before .before .before .before .before .shared-slice-known .given i .fits) _ (sym (c .before .before .before .before .before .before .before .row-at .ensures) ∙ c .before .before .before .before .before .row .given .1) .key-order
 
 part-result-end-2 : tie.Need-part-result-end-2 Inv-loop μ-loop
-part-result-end-2 c = row-read (c .before .before .before .before .before .before .before .before .before .before .before .before .before .args .table .now) (λ i. c .before .before .before .before .before .before .before .before .before .before .before .before .shared-slice-known .given i .fits) _ _ _ _ _ _ (sym (c .before .before .before .before .before .before .before .row-at .ensures) ∙ c .before .before .before .before .before .t .given .1) .inside
+part-result-end-2 c = row-read (c .before .before .before .before .before .before .before .before .before .before .before .before .before .args .table .now) (λ i. c .before .before .before .before .before .before .before .before .before .before .before .before .shared-slice-known .given i .fits) _ (sym (c .before .before .before .before .before .before .before .row-at .ensures) ∙ c .before .before .before .before .before .row .given .1) .inside
 
 returns-2 : tie.Need-returns-2 Inv-loop μ-loop
-returns-2 c = hands-key _ _ _ _ _ (c .before .before .before .before .before .before .before .before .before .before .loop .inv) _ (c .before .before .before .before .before .before .before .before .before .loop-test .taken) (sym (c .before .before .before .before .before .before .before .before .row-at .ensures) ∙ c .before .before .before .before .before .before .t .given .1) (sym (c .before .before .same-ids .ensures) ∙ c .before .if1 .taken)
+returns-2 c = hands-key _ _ _ _ _ (c .before .before .before .before .before .before .before .before .before .before .loop .inv) _ (c .before .before .before .before .before .before .before .before .before .loop-test .taken) (sym (c .before .before .before .before .before .before .before .before .row-at .ensures) ∙ c .before .before .before .before .before .before .row .given .1) (sym (c .before .before .same-ids .ensures) ∙ c .before .if1 .taken)
 
 sub-rows : tie.Need-sub-rows Inv-loop μ-loop
 sub-rows c = search needs
@@ -80,7 +80,7 @@ loop-less : tie.Need-loop-less Inv-loop μ-loop
 loop-less c = search needs
 
 loop-again : tie.Need-loop-again Inv-loop μ-loop
-loop-again c = finds-on _ _ _ _ _ (c .before .before .before .before .before .before .before .before .before .loop .inv) (0, 0) (c .before .before .before .before .before .before .before .before .loop-test .taken) (sym (c .before .before .before .before .before .before .before .row-at .ensures) ∙ c .before .before .before .before .before .t .given .1) (sym (c .before .same-ids .ensures) ∙ c .if1 .left)
+loop-again c = finds-on _ _ _ _ _ (c .before .before .before .before .before .before .before .before .before .loop .inv) (0, 0) (c .before .before .before .before .before .before .before .before .loop-test .taken) (sym (c .before .before .before .before .before .before .before .row-at .ensures) ∙ c .before .before .before .before .before .row .given .1) (sym (c .before .same-ids .ensures) ∙ c .if1 .left)
 
 sub-result-3 : tie.Need-sub-result-3 Inv-loop μ-loop
 sub-result-3 c = search needs
@@ -107,7 +107,7 @@ find-spec =
     part-result-start
     part-result-end
     returns
-    enum-known-t
+    enum-known-row
     sub-same-ids
     part-same-ids-start
     part-same-ids-end

@@ -1,7 +1,7 @@
 use mathlib.Core.Path.{sym, _∙_}
-use borrow.Author.Needs.{needs}
 use borrow.Author.Tests.{eq-eqb, ne-eqb}
-use Rattle.records_table.specs.Reading.{rowThen, rowAt}
+use Rattle.records_table.specs.Reading.{rowThen, readRow}
+use borrow.Author.Needs.{needs}
 use Rattle.records_table.proofs.row_at.Statement.{statement}
 use Rattle.records_table.proofs.row_at.Tie as tie
 use Rattle.records_table.proofs.row_at.Reads as reads
@@ -15,23 +15,23 @@ record-at-requires c κs = search needs
 enum-told : tie.Need-enum-told
 enum-told c = search needs
 
-enum-known-kind : tie.Need-enum-known-kind
-enum-known-kind c = search needs
+enum-known-record : tie.Need-enum-known-record
+enum-known-record c = search needs
 
 row-body-requires : tie.Need-row-body-requires
 row-body-requires c κs = search needs
 
 returns : tie.Need-returns
-unfolding rowThen rowAt
-returns c = rw (sym (c .before .before .before .before .before .record-at .ensures) ∙ c .before .before .before .kind .given .1, eq-eqb _ _ (c .before .if1 .taken)) (c .row-body .ensures)
+unfolding rowThen readRow
+returns c = rw (sym (c .before .before .before .before .before .before .before .record-at .ensures) ∙ c .before .before .before .before .before .«record» .given .1, eq-eqb _ _ (c .before .before .if1 .taken)) (c .row-body .ensures)
 
 returns-2 : tie.Need-returns-2
-unfolding rowThen rowAt
+unfolding rowThen readRow
 returns-2 c = rw (sym (c .before .before .record-at .ensures) ∙ c .enum-told .given .1)
 
 returns-3 : tie.Need-returns-3
-unfolding rowThen rowAt
-returns-3 c = rw (sym (c .before .before .before .before .record-at .ensures) ∙ c .before .before .kind .given .1, ne-eqb _ _ (c .if1 .left))
+unfolding rowThen readRow
+returns-3 c = rw (sym (c .before .before .before .before .before .record-at .ensures) ∙ c .before .before .before .«record» .given .1, ne-eqb _ _ (c .if1 .left))
 
 pub row-at-spec : {M : Type 1} → statement M
 row-at-spec =
@@ -39,7 +39,7 @@ row-at-spec =
     (tie.spec
     record-at-requires
     enum-told
-    enum-known-kind
+    enum-known-record
     row-body-requires
     returns
     returns-2

@@ -1,7 +1,7 @@
 use mathlib.Core.Path.{sym, _∙_}
+use borrow.Author.Tests.{eq-eqb, le-ltb, lt-ltb, ne-eqb}
+use Rattle.records_table.specs.Reading.{rowKid, rowTid, rowBody}
 use borrow.Author.Needs.{needs}
-use borrow.Author.Tests.{eq-eqb, ne-eqb, lt-ltb, le-ltb}
-use Rattle.records_table.specs.Reading.{kidThen, tidThen, bodyThen}
 use Rattle.records_table.proofs.row_body.Statement.{statement}
 use Rattle.records_table.proofs.row_body.Tie as tie
 use Rattle.records_table.proofs.row_body.Reads as reads
@@ -27,24 +27,24 @@ enum-known-kid : tie.Need-enum-known-kid
 enum-known-kid c = search needs
 
 returns : tie.Need-returns
-unfolding kidThen tidThen bodyThen
-returns c = rw (sym (c .before .before .before .before .before .before .before .before .text-at .ensures) ∙ c .before .before .before .before .before .before .tid .given .1, sym (c .before .before .before .before .text-at2 .ensures) ∙ c .before .before .kid .given .1, lt-ltb _ _ (c .if1 .taken))
+unfolding rowKid rowTid rowBody
+returns c = rw (sym (c .before .before .before .before .before .before .before .before .before .before .text-at .ensures) ∙ c .before .before .before .before .before .before .before .before .tid .given .1, sym (c .before .before .before .before .before .before .text-at2 .ensures) ∙ c .before .before .before .before .kid .given .1, lt-ltb _ _ (c .if1 .taken))
 
 returns-2 : tie.Need-returns-2
-unfolding kidThen tidThen bodyThen
-returns-2 c = rw (sym (c .before .before .before .before .before .before .before .before .before .text-at .ensures) ∙ c .before .before .before .before .before .before .before .tid .given .1, sym (c .before .before .before .before .before .text-at2 .ensures) ∙ c .before .before .before .kid .given .1, le-ltb _ _ (c .before .if1 .left), eq-eqb _ _ (c .if2 .taken))
+unfolding rowKid rowTid rowBody
+returns-2 c = rw (sym (c .before .before .before .before .before .before .before .before .before .before .before .before .before .text-at .ensures) ∙ c .before .before .before .before .before .before .before .before .before .before .before .tid .given .1, sym (c .before .before .before .before .before .before .before .before .before .text-at2 .ensures) ∙ c .before .before .before .before .before .before .before .kid .given .1, le-ltb _ _ (c .before .before .before .if1 .left), eq-eqb _ _ (c .if2 .taken))
 
 returns-3 : tie.Need-returns-3
-unfolding kidThen tidThen bodyThen
+unfolding rowKid rowTid rowBody
 returns-3 c = rw (sym (c .before .before .text-at .ensures) ∙ c .enum-told .given .1)
 
 returns-4 : tie.Need-returns-4
-unfolding kidThen tidThen bodyThen
+unfolding rowKid rowTid rowBody
 returns-4 c = rw (sym (c .before .before .before .before .before .before .text-at .ensures) ∙ c .before .before .before .before .tid .given .1, sym (c .before .before .text-at2 .ensures) ∙ c .enum-told2 .given .1)
 
 returns-5 : tie.Need-returns-5
-unfolding kidThen tidThen bodyThen
-returns-5 c = rw (sym (c .before .before .before .before .before .before .before .before .before .text-at .ensures) ∙ c .before .before .before .before .before .before .before .tid .given .1, sym (c .before .before .before .before .before .text-at2 .ensures) ∙ c .before .before .before .kid .given .1, le-ltb _ _ (c .before .if1 .left), ne-eqb _ _ (c .if2 .left))
+unfolding rowKid rowTid rowBody
+returns-5 c = rw (sym (c .before .before .before .before .before .before .before .before .before .before .before .before .before .text-at .ensures) ∙ c .before .before .before .before .before .before .before .before .before .before .before .tid .given .1, sym (c .before .before .before .before .before .before .before .before .before .text-at2 .ensures) ∙ c .before .before .before .before .before .before .before .kid .given .1, le-ltb _ _ (c .before .before .before .if1 .left), ne-eqb _ _ (c .if2 .left))
 
 pub row-body-spec : {M : Type 1} → statement M
 row-body-spec =

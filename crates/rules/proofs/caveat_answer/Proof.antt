@@ -23,4 +23,10 @@ unfolding caveatJudged
 returns-2 c = rw (sym (c .before .before .caveat-holds .ensures) ∙ c .before .if1 .left) (c .failing .ensures)
 
 pub caveat-answer-spec : {M : Type 1} → statement M
-caveat-answer-spec = tie.close (tie.spec caveat-holds-requires returns failing-requires returns-2)
+caveat-answer-spec =
+    tie.close
+    (tie.spec
+    caveat-holds-requires
+    returns
+    failing-requires
+    returns-2)

@@ -1,21 +1,9 @@
-use mathlib.Core.Path.{ap, ap₂, _∙_}
-use Rattle.rules_compare.specs.Fitting.{fitsOf}
-use Rattle.rules_compare.specs.Comparing.{audienceIs, digestIs}
 use Rattle.rules.specs.Judging.{caveatHeld, amnesiaHeld}
 use borrow.Author.Needs.{needs}
 use Rattle.rules.proofs.caveat_holds.Statement.{statement}
 use Rattle.rules.proofs.caveat_holds.Tie as tie
 use Rattle.rules.proofs.caveat_holds.Reads as reads
 use Rattle.rules.proofs.caveat_holds.Lts as lts
-use Rattle.basis.proofs.part.Reads as part-reads
-use Rattle.basis.proofs.same.Reads as same-reads
-use Rattle.rules_compare.proofs.audience_is.Reads as audience-is-reads
-use Rattle.rules_compare.proofs.digest_is.Reads as digest-is-reads
-use Rattle.rules_compare.proofs.fits.Reads as fits-reads
-use Rattle.rules_compare.proofs.method_in.Reads as method-in-reads
-use Rattle.rules_compare.proofs.within_skew.Reads as within-skew-reads
-use Rattle.rules_compare.proofs.peer_agrees.Reads as peer-agrees-reads
-use Rattle.rules_compare.proofs.rate_holds.Reads as rate-holds-reads
 
 enum-known-caveat : tie.Need-enum-known-caveat
 enum-known-caveat c = search needs
@@ -32,17 +20,17 @@ within-skew-requires-2 c κs = search needs
 enum-known-caveat-3 : tie.Need-enum-known-caveat-3
 enum-known-caveat-3 c = search needs
 
-part-requires : tie.Need-part-requires
-part-requires c κs = search needs
+lend-requires : tie.Need-lend-requires
+lend-requires c κs = search needs
 
-audience-is-requires : tie.Need-audience-is-requires
-audience-is-requires c κs = search needs
+part-is-requires : tie.Need-part-is-requires
+part-is-requires c κs = search needs
 
 enum-known-caveat-4 : tie.Need-enum-known-caveat-4
 enum-known-caveat-4 c = search needs
 
-part-requires-2 : tie.Need-part-requires-2
-part-requires-2 c κs = search needs
+lend-requires-2 : tie.Need-lend-requires-2
+lend-requires-2 c κs = search needs
 
 method-in-requires : tie.Need-method-in-requires
 method-in-requires c κs = search needs
@@ -50,11 +38,11 @@ method-in-requires c κs = search needs
 enum-known-caveat-5 : tie.Need-enum-known-caveat-5
 enum-known-caveat-5 c = search needs
 
-part-requires-3 : tie.Need-part-requires-3
-part-requires-3 c κs = search needs
+lend-requires-3 : tie.Need-lend-requires-3
+lend-requires-3 c κs = search needs
 
-part-requires-4 : tie.Need-part-requires-4
-part-requires-4 c κs = search needs
+lend-requires-4 : tie.Need-lend-requires-4
+lend-requires-4 c κs = search needs
 
 fits-requires : tie.Need-fits-requires
 fits-requires c κs = search needs
@@ -77,8 +65,8 @@ rate-holds-requires c κs = search needs
 enum-known-caveat-9 : tie.Need-enum-known-caveat-9
 enum-known-caveat-9 c = search needs
 
-part-requires-5 : tie.Need-part-requires-5
-part-requires-5 c κs = search needs
+lend-requires-5 : tie.Need-lend-requires-5
+lend-requires-5 c κs = search needs
 
 same-requires : tie.Need-same-requires
 same-requires c κs = search needs
@@ -93,11 +81,11 @@ returns c = rw (c .before .before .caveat10 .given .1, c .if1 .taken)
 enum-known-caveat-11 : tie.Need-enum-known-caveat-11
 enum-known-caveat-11 c = search needs
 
-part-requires-6 : tie.Need-part-requires-6
-part-requires-6 c κs = search needs
+lend-requires-6 : tie.Need-lend-requires-6
+lend-requires-6 c κs = search needs
 
-digest-is-requires : tie.Need-digest-is-requires
-digest-is-requires c κs = search needs
+part-is-requires-2 : tie.Need-part-is-requires-2
+part-is-requires-2 c κs = search needs
 
 enum-told : tie.Need-enum-told
 enum-told c = search needs
@@ -112,15 +100,15 @@ returns-3 c = rw (c .before .before .caveat2 .given .1) (c .within-skew2 .ensure
 
 returns-4 : tie.Need-returns-4
 unfolding caveatHeld amnesiaHeld
-returns-4 c = rw (c .before .before .before .caveat3 .given .1) (c .audience-is .ensures ∙ ap (audienceIs _ _) (c .before .part .ensures .0))
+returns-4 c = rw (c .before .before .before .caveat3 .given .1) (rw (c .before .lend .ensures .0) at (c .part-is .ensures))
 
 returns-5 : tie.Need-returns-5
 unfolding caveatHeld amnesiaHeld
-returns-5 c = rw (c .before .before .before .caveat4 .given .1) (rw (c .before .part2 .ensures .0) at (c .method-in .ensures))
+returns-5 c = rw (c .before .before .before .before .caveat4 .given .1) (rw (c .before .lend2 .ensures .0) at (c .method-in .ensures))
 
 returns-6 : tie.Need-returns-6
 unfolding caveatHeld amnesiaHeld
-returns-6 c = rw (c .before .before .before .before .caveat5 .given .1) (c .fits2 .ensures ∙ ap₂ fitsOf (c .before .before .part3 .ensures .0) (c .before .part4 .ensures .0))
+returns-6 c = rw (c .before .before .before .before .before .caveat5 .given .1) (rw (c .before .before .lend3 .ensures .0, c .before .lend4 .ensures .0) at (c .fits2 .ensures))
 
 returns-7 : tie.Need-returns-7
 unfolding caveatHeld amnesiaHeld
@@ -136,7 +124,7 @@ returns-9 c = rw (c .before .before .caveat8 .given .1) (c .rate-holds .ensures)
 
 returns-10 : tie.Need-returns-10
 unfolding caveatHeld amnesiaHeld
-returns-10 c = rw (c .before .before .before .caveat9 .given .1) (rw (c .before .part5 .ensures .0) at (c .same .ensures))
+returns-10 c = rw (c .before .before .before .caveat9 .given .1) (rw (c .before .lend5 .ensures .0) at (c .same .ensures))
 
 returns-11 : tie.Need-returns-11
 unfolding caveatHeld amnesiaHeld
@@ -144,7 +132,7 @@ returns-11 c = rw (c .before .before .caveat10 .given .1, c .if1 .left)
 
 returns-12 : tie.Need-returns-12
 unfolding caveatHeld amnesiaHeld
-returns-12 c = rw (c .before .before .before .caveat11 .given .1) (c .digest-is .ensures ∙ ap (digestIs _ _) (c .before .part6 .ensures .0))
+returns-12 c = rw (c .before .before .before .caveat11 .given .1) (rw (c .before .lend6 .ensures .0) at (c .part-is2 .ensures))
 
 returns-13 : tie.Need-returns-13
 unfolding caveatHeld amnesiaHeld
@@ -159,14 +147,14 @@ caveat-holds-spec =
     enum-known-caveat-2
     within-skew-requires-2
     enum-known-caveat-3
-    part-requires
-    audience-is-requires
+    lend-requires
+    part-is-requires
     enum-known-caveat-4
-    part-requires-2
+    lend-requires-2
     method-in-requires
     enum-known-caveat-5
-    part-requires-3
-    part-requires-4
+    lend-requires-3
+    lend-requires-4
     fits-requires
     enum-known-caveat-6
     peer-agrees-requires
@@ -174,13 +162,13 @@ caveat-holds-spec =
     enum-known-caveat-8
     rate-holds-requires
     enum-known-caveat-9
-    part-requires-5
+    lend-requires-5
     same-requires
     enum-known-caveat-10
     returns
     enum-known-caveat-11
-    part-requires-6
-    digest-is-requires
+    lend-requires-6
+    part-is-requires-2
     enum-told
     returns-2
     returns-3

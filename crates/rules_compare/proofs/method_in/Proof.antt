@@ -13,10 +13,10 @@ use Rattle.basis.proofs.same.Reads as same-reads
 use Rattle.cbor_strings.proofs.read_string.Reads as read-string-reads
 
 abbrev Inv-loop : tie.InvT-loop
-Inv-loop s from count method p₀ k₀ p k = memberAt k s method p ≡ memberAt count s method from
+Inv-loop s method p₀ k₀ p k = memberAt k s method p ≡ memberAt k₀ s method p₀
 
 abbrev μ-loop : tie.MeasureT-loop
-μ-loop s from count method p₀ k₀ p k = k
+μ-loop s method p₀ k₀ p k = k
 
 loop-holds : tie.Need-loop-holds Inv-loop μ-loop
 loop-holds c = search needs
@@ -30,23 +30,23 @@ enum-told c = search needs
 returns : tie.Need-returns Inv-loop μ-loop
 returns c = no-method (c .before .before .before .before .loop .k) _ _ _ (c .before .before .before .loop-test .taken) (sym (c .before .before .read-string .ensures) ∙ c .enum-told .given .1) ∙ c .before .before .before .before .loop .inv
 
-enum-known-a : tie.Need-enum-known-a Inv-loop μ-loop
-enum-known-a c = search needs
+enum-known-span : tie.Need-enum-known-span Inv-loop μ-loop
+enum-known-span c = search needs
 
 sub-same : tie.Need-sub-same Inv-loop μ-loop
-sub-same c = found (c .before .before .before .before .before .before .before .before .args .s .now) (c .before .before .before .before .before .loop .p) 3 1 16 (held (c .before .before .before .before .before .before .before .before .args .s .now) (c .before .before .before .before .before .loop .p) Upper 1 16 (sym (c .before .before .before .read-string .ensures) ∙ c .before .a .given .1) .run-found) .order
+sub-same c = found (c .before .before .before .before .before .before .before .before .args .s .now) (c .before .before .before .before .before .loop .p) 3 1 16 (held (c .before .before .before .before .before .before .before .before .args .s .now) (c .before .before .before .before .before .loop .p) Upper 1 16 (sym (c .before .before .before .read-string .ensures) ∙ c .before .span .given .1) .run-found) .order
 
 part-same-start : tie.Need-part-same-start Inv-loop μ-loop
-part-same-start c = found (c .before .before .before .before .before .before .before .before .args .s .now) (c .before .before .before .before .before .loop .p) 3 1 16 (held (c .before .before .before .before .before .before .before .before .args .s .now) (c .before .before .before .before .before .loop .p) Upper 1 16 (sym (c .before .before .before .read-string .ensures) ∙ c .before .a .given .1) .run-found) .order
+part-same-start c = found (c .before .before .before .before .before .before .before .before .args .s .now) (c .before .before .before .before .before .loop .p) 3 1 16 (held (c .before .before .before .before .before .before .before .before .args .s .now) (c .before .before .before .before .before .loop .p) Upper 1 16 (sym (c .before .before .before .read-string .ensures) ∙ c .before .span .given .1) .run-found) .order
 
 part-same-end : tie.Need-part-same-end Inv-loop μ-loop
-part-same-end c = found (c .before .before .before .before .before .before .before .before .args .s .now) (c .before .before .before .before .before .loop .p) 3 1 16 (held (c .before .before .before .before .before .before .before .before .args .s .now) (c .before .before .before .before .before .loop .p) Upper 1 16 (sym (c .before .before .before .read-string .ensures) ∙ c .before .a .given .1) .run-found) .inside
+part-same-end c = found (c .before .before .before .before .before .before .before .before .args .s .now) (c .before .before .before .before .before .loop .p) 3 1 16 (held (c .before .before .before .before .before .before .before .before .args .s .now) (c .before .before .before .before .before .loop .p) Upper 1 16 (sym (c .before .before .before .read-string .ensures) ∙ c .before .span .given .1) .run-found) .inside
 
 same-requires : tie.Need-same-requires Inv-loop μ-loop
 same-requires c κs = search needs
 
 returns-2 : tie.Need-returns-2 Inv-loop μ-loop
-returns-2 c = this-method (c .before .before .before .before .before .before .before .before .loop .k) _ _ _ (c .before .before .before .before .before .before .before .loop-test .taken) (sym (c .before .before .before .before .before .before .read-string .ensures) ∙ c .before .before .before .before .a .given .1) (sym (c .before .same .ensures) ∙ c .if1 .taken) ∙ c .before .before .before .before .before .before .before .before .loop .inv
+returns-2 c = this-method (c .before .before .before .before .before .before .before .before .loop .k) _ _ _ (c .before .before .before .before .before .before .before .loop-test .taken) (sym (c .before .before .before .before .before .before .read-string .ensures) ∙ c .before .before .before .before .span .given .1) (sym (c .before .same .ensures) ∙ c .if1 .taken) ∙ c .before .before .before .before .before .before .before .before .loop .inv
 
 sub-k : tie.Need-sub-k Inv-loop μ-loop
 sub-k c = search needs
@@ -55,7 +55,7 @@ loop-less : tie.Need-loop-less Inv-loop μ-loop
 loop-less c = search needs
 
 loop-again : tie.Need-loop-again Inv-loop μ-loop
-loop-again c = next-method (c .before .before .before .before .before .before .before .before .loop .k) _ _ _ (c .before .before .before .before .before .before .before .loop-test .taken) (sym (c .before .before .before .before .before .before .read-string .ensures) ∙ c .before .before .before .before .a .given .1) (sym (c .before .same .ensures) ∙ c .if1 .left) ∙ c .before .before .before .before .before .before .before .before .loop .inv
+loop-again c = next-method (c .before .before .before .before .before .before .before .before .loop .k) _ _ _ (c .before .before .before .before .before .before .before .loop-test .taken) (sym (c .before .before .before .before .before .before .read-string .ensures) ∙ c .before .before .before .before .span .given .1) (sym (c .before .same .ensures) ∙ c .if1 .left) ∙ c .before .before .before .before .before .before .before .before .loop .inv
 
 returns-3 : tie.Need-returns-3 Inv-loop μ-loop
 unfolding memberAt
@@ -71,7 +71,7 @@ method-in-spec =
     read-string-requires
     enum-told
     returns
-    enum-known-a
+    enum-known-span
     sub-same
     part-same-start
     part-same-end

@@ -4,8 +4,6 @@ use Rattle.rules_compare.proofs.peer_agrees.Statement.{statement}
 use Rattle.rules_compare.proofs.peer_agrees.Tie as tie
 use Rattle.rules_compare.proofs.peer_agrees.Reads as reads
 use Rattle.rules_compare.proofs.peer_agrees.Lts as lts
-use Rattle.basis.proofs.run.Reads as run-reads
-use Rattle.token_cidr.proofs.first_bits_agree.Reads as first-bits-agree-reads
 
 enum-told : tie.Need-enum-told
 enum-told c = search needs
@@ -13,23 +11,23 @@ enum-told c = search needs
 enum-known-peer : tie.Need-enum-known-peer
 enum-known-peer c = search needs
 
+cast-t8 : tie.Need-cast-t8
+cast-t8 c = search needs
+
+cast-t10 : tie.Need-cast-t10
+cast-t10 c = search needs
+
 cast-t12 : tie.Need-cast-t12
 cast-t12 c = search needs
 
 cast-t14 : tie.Need-cast-t14
 cast-t14 c = search needs
 
-cast-t16 : tie.Need-cast-t16
-cast-t16 c = search needs
-
-cast-t18 : tie.Need-cast-t18
-cast-t18 c = search needs
-
 slice-aggregate-first-bits-agree : tie.Need-slice-aggregate-first-bits-agree
 slice-aggregate-first-bits-agree c = search needs
 
-run-requires : tie.Need-run-requires
-run-requires c κs = search needs
+lend-requires : tie.Need-lend-requires
+lend-requires c κs = search needs
 
 first-bits-agree-requires : tie.Need-first-bits-agree-requires
 first-bits-agree-requires c κs = search needs
@@ -40,7 +38,7 @@ returns c = rw (c .enum-told .given .1)
 
 returns-2 : tie.Need-returns-2
 unfolding peerAgrees
-returns-2 c = rw (c .before .before .before .before .peer .given .1) (rw (c .before .run .ensures .0) at (c .first-bits-agree .ensures))
+returns-2 c = rw (c .before .before .before .before .before .before .before .before .peer .given .1) (rw (c .before .lend .ensures .0) at (c .first-bits-agree .ensures))
 
 pub peer-agrees-spec : {M : Type 1} → statement M
 peer-agrees-spec =
@@ -48,12 +46,12 @@ peer-agrees-spec =
     (tie.spec
     enum-told
     enum-known-peer
+    cast-t8
+    cast-t10
     cast-t12
     cast-t14
-    cast-t16
-    cast-t18
     slice-aggregate-first-bits-agree
-    run-requires
+    lend-requires
     first-bits-agree-requires
     returns
     returns-2)

@@ -1,6 +1,6 @@
 use mathlib.Core.Path.{sym, _∙_}
-use borrow.Author.Needs.{needs}
 use Rattle.token.specs.Reading.{tokenBy}
+use borrow.Author.Needs.{needs}
 use Rattle.token.proofs.read_token.Statement.{statement}
 use Rattle.token.proofs.read_token.Tie as tie
 use Rattle.token.proofs.read_token.Reads as reads
@@ -14,8 +14,8 @@ read-front-requires c κs = search needs
 enum-known-kind : tie.Need-enum-known-kind
 enum-known-kind c = search needs
 
-enum-known-count : tie.Need-enum-known-count
-enum-known-count c = search needs
+enum-known-front : tie.Need-enum-known-front
+enum-known-front c = search needs
 
 read-back-requires : tie.Need-read-back-requires
 read-back-requires c κs = search needs
@@ -23,8 +23,8 @@ read-back-requires c κs = search needs
 enum-known-kind-2 : tie.Need-enum-known-kind-2
 enum-known-kind-2 c = search needs
 
-enum-known-tag : tie.Need-enum-known-tag
-enum-known-tag c = search needs
+enum-known-back : tie.Need-enum-known-back
+enum-known-back c = search needs
 
 returns : tie.Need-returns
 unfolding tokenBy
@@ -32,11 +32,11 @@ returns c = rw (sym (c .before .before .before .read-front .ensures) ∙ c .befo
 
 returns-2 : tie.Need-returns-2
 unfolding tokenBy
-returns-2 c = rw (sym (c .before .before .before .before .before .before .before .read-front .ensures) ∙ c .before .before .before .before .before .count .given .1, sym (c .before .before .before .read-back .ensures) ∙ c .before .kind2 .given .1)
+returns-2 c = rw (sym (c .before .before .before .before .before .before .before .read-front .ensures) ∙ c .before .before .before .before .before .front .given .1, sym (c .before .before .before .read-back .ensures) ∙ c .before .kind2 .given .1)
 
 returns-3 : tie.Need-returns-3
 unfolding tokenBy
-returns-3 c = rw (sym (c .before .before .before .before .before .before .before .read-front .ensures) ∙ c .before .before .before .before .before .count .given .1, sym (c .before .before .before .read-back .ensures) ∙ c .before .tag .given .1)
+returns-3 c = rw (sym (c .before .before .before .before .before .before .before .before .before .before .before .before .read-front .ensures) ∙ c .before .before .before .before .before .before .before .before .before .before .front .given .1, sym (c .before .before .before .before .before .before .before .before .read-back .ensures) ∙ c .before .before .before .before .before .before .back .given .1)
 
 pub read-token-spec : {M : Type 1} → statement M
 read-token-spec =
@@ -44,10 +44,10 @@ read-token-spec =
     (tie.spec
     read-front-requires
     enum-known-kind
-    enum-known-count
+    enum-known-front
     read-back-requires
     enum-known-kind-2
-    enum-known-tag
+    enum-known-back
     returns
     returns-2
     returns-3)

@@ -1,7 +1,7 @@
 use mathlib.Core.Path.{sym, _∙_}
-use borrow.Author.Needs.{needs}
 use borrow.Author.Tests.{eq-eqb, ne-eqb}
 use Rattle.token_back.specs.Back.{endThen, tidThen, kidThen, vThen, backOf}
+use borrow.Author.Needs.{needs}
 use Rattle.token_back.proofs.read_back.Statement.{statement}
 use Rattle.token_back.proofs.read_back.Tie as tie
 use Rattle.token_back.proofs.read_back.Reads as reads
@@ -48,7 +48,7 @@ enum-known-tid c = search needs
 
 returns : tie.Need-returns
 unfolding endThen tidThen kidThen vThen backOf
-returns c = rw (sym (c .before .before .before .before .before .before .before .before .before .before .before .before .before .before .before .before .tag-field .ensures) ∙ c .before .before .before .before .before .before .before .before .before .before .before .before .before .before .tag .given .1, sym (c .before .before .before .before .before .before .before .before .before .before .before .before .version-field .ensures) ∙ c .before .before .before .before .before .before .before .before .before .before .q .given .1, sym (c .before .before .before .before .before .before .before .before .name-field .ensures) ∙ c .before .before .before .before .before .before .kid .given .1, sym (c .before .before .before .before .name-field2 .ensures) ∙ c .before .before .tid .given .1, eq-eqb _ _ (c .if1 .taken))
+returns c = rw (sym (c .before .before .before .before .before .before .before .before .before .before .before .before .before .before .before .before .before .tag-field .ensures) ∙ c .before .before .before .before .before .before .before .before .before .before .before .before .before .before .before .tag .given .1, sym (c .before .before .before .before .before .before .before .before .before .before .before .before .before .version-field .ensures) ∙ c .before .before .before .before .before .before .before .before .before .before .before .q .given .1, sym (c .before .before .before .before .before .before .before .before .before .name-field .ensures) ∙ c .before .before .before .before .before .before .before .kid .given .1, sym (c .before .before .before .before .before .name-field2 .ensures) ∙ c .before .before .before .tid .given .1, c .before .struct-known .given .1, eq-eqb _ _ (c .if1 .taken))
 
 returns-2 : tie.Need-returns-2
 unfolding endThen tidThen kidThen vThen backOf
@@ -68,7 +68,7 @@ returns-5 c = rw (sym (c .before .before .before .before .before .before .before
 
 returns-6 : tie.Need-returns-6
 unfolding endThen tidThen kidThen vThen backOf
-returns-6 c = rw (sym (c .before .before .before .before .before .before .before .before .before .before .before .before .before .before .before .before .tag-field .ensures) ∙ c .before .before .before .before .before .before .before .before .before .before .before .before .before .before .tag .given .1, sym (c .before .before .before .before .before .before .before .before .before .before .before .before .version-field .ensures) ∙ c .before .before .before .before .before .before .before .before .before .before .q .given .1, sym (c .before .before .before .before .before .before .before .before .name-field .ensures) ∙ c .before .before .before .before .before .before .kid .given .1, sym (c .before .before .before .before .name-field2 .ensures) ∙ c .before .before .tid .given .1, ne-eqb _ _ (c .if1 .left))
+returns-6 c = rw (sym (c .before .before .before .before .before .before .before .before .before .before .before .before .before .before .before .before .before .tag-field .ensures) ∙ c .before .before .before .before .before .before .before .before .before .before .before .before .before .before .before .tag .given .1, sym (c .before .before .before .before .before .before .before .before .before .before .before .before .before .version-field .ensures) ∙ c .before .before .before .before .before .before .before .before .before .before .before .q .given .1, sym (c .before .before .before .before .before .before .before .before .before .name-field .ensures) ∙ c .before .before .before .before .before .before .before .kid .given .1, sym (c .before .before .before .before .before .name-field2 .ensures) ∙ c .before .before .before .tid .given .1, c .before .struct-known .given .1, ne-eqb _ _ (c .if1 .left))
 
 pub read-back-spec : {M : Type 1} → statement M
 read-back-spec =

@@ -1,6 +1,6 @@
 use mathlib.Core.Path.{sym, _∙_}
-use borrow.Author.Needs.{needs}
 use Rattle.token_back.specs.Back.{tagAt, tagField}
+use borrow.Author.Needs.{needs}
 use Rattle.token_back.proofs.tag_field.Statement.{statement}
 use Rattle.token_back.proofs.tag_field.Tie as tie
 use Rattle.token_back.proofs.tag_field.Reads as reads
@@ -23,8 +23,8 @@ read-run-requires c κs = search needs
 enum-known-a : tie.Need-enum-known-a
 enum-known-a c = search needs
 
-enum-known-from : tie.Need-enum-known-from
-enum-known-from c = search needs
+enum-known-span : tie.Need-enum-known-span
+enum-known-span c = search needs
 
 returns : tie.Need-returns
 unfolding tagAt tagField
@@ -36,7 +36,7 @@ returns-2 c = rw (sym (c .before .before .before .before .before .before .before
 
 returns-3 : tie.Need-returns-3
 unfolding tagAt tagField
-returns-3 c = rw (sym (c .before .before .before .before .before .before .before .wanted-key .ensures) ∙ c .before .before .before .before .before .p .given .1, sym (c .before .before .before .read-run .ensures) ∙ c .before .from .given .1)
+returns-3 c = rw (sym (c .before .before .before .before .before .before .before .wanted-key .ensures) ∙ c .before .before .before .before .before .p .given .1, sym (c .before .before .before .read-run .ensures) ∙ c .before .span .given .1)
 
 pub tag-field-spec : {M : Type 1} → statement M
 tag-field-spec =
@@ -47,7 +47,7 @@ tag-field-spec =
     enum-known-p
     read-run-requires
     enum-known-a
-    enum-known-from
+    enum-known-span
     returns
     returns-2
     returns-3)

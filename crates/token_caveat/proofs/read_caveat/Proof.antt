@@ -1,6 +1,6 @@
 use mathlib.Core.Path.{sym, _∙_}
+use Rattle.token_caveat.specs.Reading.{tNext, tValueThen, caveatMap, caveatOf}
 use borrow.Author.Needs.{needs}
-use Rattle.token_caveat.specs.Reading.{vThen, tThen, mapThen, caveatOf}
 use Rattle.token_caveat.proofs.read_caveat.Statement.{statement}
 use Rattle.token_caveat.proofs.read_caveat.Tie as tie
 use Rattle.token_caveat.proofs.read_caveat.Reads as reads
@@ -50,23 +50,23 @@ value-at-requires : tie.Need-value-at-requires
 value-at-requires c κs = search needs
 
 returns : tie.Need-returns
-unfolding vThen tThen mapThen caveatOf
+unfolding tNext tValueThen caveatMap caveatOf
 returns c = rw (sym (c .before .before .before .read-count .ensures) ∙ c .before .kind .given .1)
 
 returns-2 : tie.Need-returns-2
-unfolding vThen tThen mapThen caveatOf
+unfolding tNext tValueThen caveatMap caveatOf
 returns-2 c = rw (sym (c .before .before .before .before .before .before .before .read-count .ensures) ∙ c .before .before .before .before .before .p .given .1, sym (c .before .before .before .wanted-key .ensures) ∙ c .before .kind2 .given .1)
 
 returns-3 : tie.Need-returns-3
-unfolding vThen tThen mapThen caveatOf
+unfolding tNext tValueThen caveatMap caveatOf
 returns-3 c = rw (sym (c .before .before .before .before .before .before .before .before .before .before .before .read-count .ensures) ∙ c .before .before .before .before .before .before .before .before .before .p .given .1, sym (c .before .before .before .before .before .before .before .wanted-key .ensures) ∙ c .before .before .before .before .before .q .given .1, sym (c .before .before .before .key-at .ensures) ∙ c .before .kind3 .given .1)
 
 returns-4 : tie.Need-returns-4
-unfolding vThen tThen mapThen caveatOf
+unfolding tNext tValueThen caveatMap caveatOf
 returns-4 c = rw (sym (c .before .before .before .before .before .before .before .before .before .before .before .before .before .before .before .read-count .ensures) ∙ c .before .before .before .before .before .before .before .before .before .before .before .before .before .p .given .1, sym (c .before .before .before .before .before .before .before .before .before .before .before .wanted-key .ensures) ∙ c .before .before .before .before .before .before .before .before .before .q .given .1, sym (c .before .before .before .before .before .before .before .key-at .ensures) ∙ c .before .before .before .before .before .t .given .1, sym (c .before .before .before .wanted-key2 .ensures) ∙ c .before .kind4 .given .1)
 
 returns-5 : tie.Need-returns-5
-unfolding vThen tThen mapThen caveatOf
+unfolding tNext tValueThen caveatMap caveatOf
 returns-5 c = rw (sym (c .before .before .before .before .before .before .before .before .before .before .before .before .before .before .before .before .read-count .ensures) ∙ c .before .before .before .before .before .before .before .before .before .before .before .before .before .before .p .given .1, sym (c .before .before .before .before .before .before .before .before .before .before .before .before .wanted-key .ensures) ∙ c .before .before .before .before .before .before .before .before .before .before .q .given .1, sym (c .before .before .before .before .before .before .before .before .key-at .ensures) ∙ c .before .before .before .before .before .before .t .given .1, sym (c .before .before .before .before .wanted-key2 .ensures) ∙ c .before .before .v .given .1) (c .value-at .ensures)
 
 pub read-caveat-spec : {M : Type 1} → statement M

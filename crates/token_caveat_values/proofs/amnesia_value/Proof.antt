@@ -1,6 +1,6 @@
 use mathlib.Core.Path.{sym, _∙_}
-use borrow.Author.Needs.{needs}
 use Rattle.token_caveat_values.specs.Values.{amnesiaValue}
+use borrow.Author.Needs.{needs}
 use Rattle.token_caveat_values.proofs.amnesia_value.Statement.{statement}
 use Rattle.token_caveat_values.proofs.amnesia_value.Tie as tie
 use Rattle.token_caveat_values.proofs.amnesia_value.Reads as reads
@@ -26,4 +26,10 @@ returns-2 c = rw (sym (c .before .before .before .read-count .ensures) ∙ c .be
 
 pub amnesia-value-spec : {M : Type 1} → statement M
 amnesia-value-spec =
-    tie.close (tie.spec read-count-requires enum-known-kind enum-known-n returns returns-2)
+    tie.close
+    (tie.spec
+    read-count-requires
+    enum-known-kind
+    enum-known-n
+    returns
+    returns-2)

@@ -1,6 +1,6 @@
 use mathlib.Core.Path.{sym, _∙_}
-use borrow.Author.Needs.{needs}
 use Rattle.token_caveat_values.specs.Values.{digestValue}
+use borrow.Author.Needs.{needs}
 use Rattle.token_caveat_values.proofs.digest_value.Statement.{statement}
 use Rattle.token_caveat_values.proofs.digest_value.Tie as tie
 use Rattle.token_caveat_values.proofs.digest_value.Reads as reads
@@ -13,8 +13,8 @@ read-string-requires c κs = search needs
 enum-known-a : tie.Need-enum-known-a
 enum-known-a c = search needs
 
-enum-known-from : tie.Need-enum-known-from
-enum-known-from c = search needs
+enum-known-span : tie.Need-enum-known-span
+enum-known-span c = search needs
 
 returns : tie.Need-returns
 unfolding digestValue
@@ -22,8 +22,14 @@ returns c = rw (sym (c .before .before .before .read-string .ensures) ∙ c .bef
 
 returns-2 : tie.Need-returns-2
 unfolding digestValue
-returns-2 c = rw (sym (c .before .before .before .read-string .ensures) ∙ c .before .from .given .1)
+returns-2 c = rw (sym (c .before .before .before .read-string .ensures) ∙ c .before .span .given .1)
 
 pub digest-value-spec : {M : Type 1} → statement M
 digest-value-spec =
-    tie.close (tie.spec read-string-requires enum-known-a enum-known-from returns returns-2)
+    tie.close
+    (tie.spec
+    read-string-requires
+    enum-known-a
+    enum-known-span
+    returns
+    returns-2)

@@ -1,6 +1,6 @@
 use mathlib.Core.Path.{sym, _∙_}
-use borrow.Author.Needs.{needs}
 use Rattle.token_caveat_values.specs.Values.{methodValue}
+use borrow.Author.Needs.{needs}
 use Rattle.token_caveat_values.proofs.method_value.Statement.{statement}
 use Rattle.token_caveat_values.proofs.method_value.Tie as tie
 use Rattle.token_caveat_values.proofs.method_value.Reads as reads
@@ -13,8 +13,8 @@ read-methods-requires c κs = search needs
 enum-known-kind : tie.Need-enum-known-kind
 enum-known-kind c = search needs
 
-enum-known-count : tie.Need-enum-known-count
-enum-known-count c = search needs
+enum-known-methods : tie.Need-enum-known-methods
+enum-known-methods c = search needs
 
 returns : tie.Need-returns
 unfolding methodValue
@@ -22,8 +22,14 @@ returns c = rw (sym (c .before .before .before .read-methods .ensures) ∙ c .be
 
 returns-2 : tie.Need-returns-2
 unfolding methodValue
-returns-2 c = rw (sym (c .before .before .before .read-methods .ensures) ∙ c .before .count .given .1)
+returns-2 c = rw (sym (c .before .before .before .read-methods .ensures) ∙ c .before .methods .given .1)
 
 pub method-value-spec : {M : Type 1} → statement M
 method-value-spec =
-    tie.close (tie.spec read-methods-requires enum-known-kind enum-known-count returns returns-2)
+    tie.close
+    (tie.spec
+    read-methods-requires
+    enum-known-kind
+    enum-known-methods
+    returns
+    returns-2)

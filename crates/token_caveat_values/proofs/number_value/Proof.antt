@@ -1,11 +1,10 @@
 use mathlib.Core.Path.{sym, _∙_}
-use borrow.Author.Needs.{needs}
 use Rattle.token_caveat_values.specs.Values.{numberValue}
+use borrow.Author.Needs.{needs}
 use Rattle.token_caveat_values.proofs.number_value.Statement.{statement}
 use Rattle.token_caveat_values.proofs.number_value.Tie as tie
 use Rattle.token_caveat_values.proofs.number_value.Reads as reads
 use Rattle.token_caveat_values.proofs.number_value.Lts as lts
-use Rattle.token_caveat_values.proofs.numbered.Reads as numbered-reads
 use Rattle.cbor_heads.proofs.read_count.Reads as read-count-reads
 
 read-count-requires : tie.Need-read-count-requires
@@ -17,8 +16,8 @@ enum-known-kind c = search needs
 enum-known-n : tie.Need-enum-known-n
 enum-known-n c = search needs
 
-numbered-requires : tie.Need-numbered-requires
-numbered-requires c κs = search needs
+of-number-requires : tie.Need-of-number-requires
+of-number-requires c κs = search needs
 
 returns : tie.Need-returns
 unfolding numberValue
@@ -26,9 +25,15 @@ returns c = rw (sym (c .before .before .before .read-count .ensures) ∙ c .befo
 
 returns-2 : tie.Need-returns-2
 unfolding numberValue
-returns-2 c = rw (sym (c .before .before .before .before .read-count .ensures) ∙ c .before .before .n .given .1, sym (c .numbered .ensures))
+returns-2 c = rw (sym (c .before .before .before .before .read-count .ensures) ∙ c .before .before .n .given .1, sym (c .of-number .ensures))
 
 pub number-value-spec : {M : Type 1} → statement M
 number-value-spec =
     tie.close
-    (tie.spec read-count-requires enum-known-kind enum-known-n numbered-requires returns returns-2)
+    (tie.spec
+    read-count-requires
+    enum-known-kind
+    enum-known-n
+    of-number-requires
+    returns
+    returns-2)

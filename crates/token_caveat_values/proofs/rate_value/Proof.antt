@@ -1,6 +1,6 @@
 use mathlib.Core.Path.{sym, _∙_}
-use borrow.Author.Needs.{needs}
 use Rattle.token_caveat_values.specs.Values.{burstThen, rateMap, rateValue}
+use borrow.Author.Needs.{needs}
 use Rattle.token_caveat_values.proofs.rate_value.Statement.{statement}
 use Rattle.token_caveat_values.proofs.rate_value.Tie as tie
 use Rattle.token_caveat_values.proofs.rate_value.Reads as reads

@@ -1,11 +1,10 @@
 use mathlib.Core.Path.{sym, _∙_}
-use borrow.Author.Needs.{needs}
 use Rattle.token_caveat_values.specs.Values.{textValue}
+use borrow.Author.Needs.{needs}
 use Rattle.token_caveat_values.proofs.text_value.Statement.{statement}
 use Rattle.token_caveat_values.proofs.text_value.Tie as tie
 use Rattle.token_caveat_values.proofs.text_value.Reads as reads
 use Rattle.token_caveat_values.proofs.text_value.Lts as lts
-use Rattle.token_caveat_values.proofs.worded.Reads as worded-reads
 use Rattle.cbor_strings.proofs.read_string.Reads as read-string-reads
 
 read-string-requires : tie.Need-read-string-requires
@@ -14,11 +13,11 @@ read-string-requires c κs = search needs
 enum-known-kind : tie.Need-enum-known-kind
 enum-known-kind c = search needs
 
-enum-known-from : tie.Need-enum-known-from
-enum-known-from c = search needs
+enum-known-span : tie.Need-enum-known-span
+enum-known-span c = search needs
 
-worded-requires : tie.Need-worded-requires
-worded-requires c κs = search needs
+of-text-requires : tie.Need-of-text-requires
+of-text-requires c κs = search needs
 
 returns : tie.Need-returns
 unfolding textValue
@@ -26,7 +25,7 @@ returns c = rw (sym (c .before .before .before .read-string .ensures) ∙ c .bef
 
 returns-2 : tie.Need-returns-2
 unfolding textValue
-returns-2 c = rw (sym (c .before .before .before .before .read-string .ensures) ∙ c .before .before .from .given .1, sym (c .worded .ensures))
+returns-2 c = rw (sym (c .before .before .before .before .read-string .ensures) ∙ c .before .before .span .given .1, sym (c .of-text .ensures))
 
 pub text-value-spec : {M : Type 1} → statement M
 text-value-spec =
@@ -34,7 +33,7 @@ text-value-spec =
     (tie.spec
     read-string-requires
     enum-known-kind
-    enum-known-from
-    worded-requires
+    enum-known-span
+    of-text-requires
     returns
     returns-2)

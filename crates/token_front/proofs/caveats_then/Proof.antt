@@ -1,6 +1,6 @@
 use mathlib.Core.Path.{sym, _∙_}
-use borrow.Author.Needs.{needs}
 use Rattle.token_front.specs.Front.{rThen, rKeyThen, caveatsThen}
+use borrow.Author.Needs.{needs}
 use Rattle.token_front.proofs.caveats_then.Statement.{statement}
 use Rattle.token_front.proofs.caveats_then.Tie as tie
 use Rattle.token_front.proofs.caveats_then.Reads as reads

@@ -1,6 +1,6 @@
 use mathlib.Core.Path.{sym, _∙_}
-use borrow.Author.Needs.{needs}
 use Rattle.token_front.specs.Front.{cThen, mapThen, frontOf}
+use borrow.Author.Needs.{needs}
 use Rattle.token_front.proofs.read_front.Statement.{statement}
 use Rattle.token_front.proofs.read_front.Tie as tie
 use Rattle.token_front.proofs.read_front.Reads as reads

@@ -1,7 +1,7 @@
 use mathlib.Core.Path.{sym, _∙_}
-use borrow.Author.Needs.{needs}
 use borrow.Author.Tests.{eq-eqb, ne-eqb}
 use Rattle.token_scope.specs.Reading.{anotherThen, maxBytesThen, limitThen}
+use borrow.Author.Needs.{needs}
 use Rattle.token_scope.proofs.limit_then.Statement.{statement}
 use Rattle.token_scope.proofs.limit_then.Tie as tie
 use Rattle.token_scope.proofs.limit_then.Reads as reads

@@ -1,6 +1,6 @@
 use mathlib.Core.Path.{sym, _∙_}
-use borrow.Author.Needs.{needs}
 use Rattle.token_scope.specs.Methods.{endOf}
+use borrow.Author.Needs.{needs}
 use Rattle.token_scope.proofs.method_at.Statement.{statement}
 use Rattle.token_scope.proofs.method_at.Tie as tie
 use Rattle.token_scope.proofs.method_at.Reads as reads
@@ -10,15 +10,15 @@ use Rattle.cbor_strings.proofs.read_string.Reads as read-string-reads
 read-string-requires : tie.Need-read-string-requires
 read-string-requires c κs = search needs
 
-enum-known-to : tie.Need-enum-known-to
-enum-known-to c = search needs
+enum-known-span : tie.Need-enum-known-span
+enum-known-span c = search needs
 
 enum-known-kind : tie.Need-enum-known-kind
 enum-known-kind c = search needs
 
 returns : tie.Need-returns
 unfolding endOf
-returns c = rw (sym (c .before .before .before .read-string .ensures) ∙ c .before .to .given .1)
+returns c = rw (sym (c .before .before .before .read-string .ensures) ∙ c .before .span .given .1)
 
 returns-2 : tie.Need-returns-2
 unfolding endOf
@@ -26,4 +26,10 @@ returns-2 c = rw (sym (c .before .before .before .read-string .ensures) ∙ c .b
 
 pub method-at-spec : {M : Type 1} → statement M
 method-at-spec =
-    tie.close (tie.spec read-string-requires enum-known-to enum-known-kind returns returns-2)
+    tie.close
+    (tie.spec
+    read-string-requires
+    enum-known-span
+    enum-known-kind
+    returns
+    returns-2)

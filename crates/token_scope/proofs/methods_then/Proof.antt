@@ -1,6 +1,6 @@
 use mathlib.Core.Path.{sym, _∙_}
-use borrow.Author.Needs.{needs}
 use Rattle.token_scope.specs.Reading.{methodsThen}
+use borrow.Author.Needs.{needs}
 use Rattle.token_scope.proofs.methods_then.Statement.{statement}
 use Rattle.token_scope.proofs.methods_then.Tie as tie
 use Rattle.token_scope.proofs.methods_then.Reads as reads
@@ -14,8 +14,8 @@ read-methods-requires c κs = search needs
 enum-known-kind : tie.Need-enum-known-kind
 enum-known-kind c = search needs
 
-enum-known-count : tie.Need-enum-known-count
-enum-known-count c = search needs
+enum-known-methods : tie.Need-enum-known-methods
+enum-known-methods c = search needs
 
 limit-then-requires : tie.Need-limit-then-requires
 limit-then-requires c κs = search needs
@@ -26,7 +26,7 @@ returns c = rw (sym (c .before .before .before .read-methods .ensures) ∙ c .be
 
 returns-2 : tie.Need-returns-2
 unfolding methodsThen
-returns-2 c = rw (sym (c .before .before .before .before .read-methods .ensures) ∙ c .before .before .count .given .1) (c .limit-then .ensures)
+returns-2 c = rw (sym (c .before .before .before .before .read-methods .ensures) ∙ c .before .before .methods .given .1) (c .limit-then .ensures)
 
 pub methods-then-spec : {M : Type 1} → statement M
 methods-then-spec =
@@ -34,7 +34,7 @@ methods-then-spec =
     (tie.spec
     read-methods-requires
     enum-known-kind
-    enum-known-count
+    enum-known-methods
     limit-then-requires
     returns
     returns-2)

@@ -1,6 +1,6 @@
 use mathlib.Core.Path.{sym, _∙_}
-use borrow.Author.Needs.{needs}
 use Rattle.token_scope.specs.Methods.{methodsTo, methodsBy}
+use borrow.Author.Needs.{needs}
 use Rattle.token_scope.proofs.read_methods.Statement.{statement}
 use Rattle.token_scope.proofs.read_methods.Tie as tie
 use Rattle.token_scope.proofs.read_methods.Reads as reads

@@ -1,12 +1,12 @@
 use mathlib.Core.Path.{sym, _∙_}
-use borrow.Author.Needs.{needs}
-use Rattle.cbor_heads.proofs.CountLaws.{counted}
 use borrow.Author.Tests.{eq-eqb, ne-eqb}
 use Rattle.token_scope.specs.Reading.{firstThen, entriesThen, scopeOf}
+use borrow.Author.Needs.{needs}
 use Rattle.token_scope.proofs.read_scope.Statement.{statement}
 use Rattle.token_scope.proofs.read_scope.Tie as tie
 use Rattle.token_scope.proofs.read_scope.Reads as reads
 use Rattle.token_scope.proofs.read_scope.Lts as lts
+use Rattle.cbor_heads.proofs.CountLaws.{counted}
 use Rattle.cbor_heads.proofs.read_count.Reads as read-count-reads
 use Rattle.cbor_keys.proofs.key_at.Reads as key-at-reads
 use Rattle.token_scope.proofs.methods_then.Reads as methods-then-reads

@@ -5,10 +5,6 @@ use Rattle.verify.proofs.judge_bytes.Statement.{statement}
 use Rattle.verify.proofs.judge_bytes.Tie as tie
 use Rattle.verify.proofs.judge_bytes.Reads as reads
 use Rattle.verify.proofs.judge_bytes.Lts as lts
-use Rattle.basis.proofs.part.Reads as part-reads
-use Rattle.verify_walk.proofs.with_key.Reads as with-key-reads
-use Rattle.records_table.proofs.find.Reads as find-reads
-use Rattle.token.proofs.read_token.Reads as read-token-reads
 
 read-token-requires : tie.Need-read-token-requires
 read-token-requires c κs = search needs
@@ -16,29 +12,29 @@ read-token-requires c κs = search needs
 enum-known-kind : tie.Need-enum-known-kind
 enum-known-kind c = search needs
 
-enum-known-count : tie.Need-enum-known-count
-enum-known-count c = search needs
+enum-known-token : tie.Need-enum-known-token
+enum-known-token c = search needs
 
-part-requires : tie.Need-part-requires
-part-requires c κs = search needs
+lend-requires : tie.Need-lend-requires
+lend-requires c κs = search needs
 
-part-requires-2 : tie.Need-part-requires-2
-part-requires-2 c κs = search needs
+lend-requires-2 : tie.Need-lend-requires-2
+lend-requires-2 c κs = search needs
 
 find-requires : tie.Need-find-requires
 find-requires c κs = search needs
 
 with-key-requires : tie.Need-with-key-requires
-with-key-requires c κs = read-ready (c .before .before .before .before .before .before .before .before .before .before .before .before .args .s .now) (sym (c .before .before .before .before .before .before .before .read-token .ensures) ∙ c .before .before .before .before .before .count .given .1) (λ i. c .before .before .before .before .before .before .before .before .before .before .shared-slice-known2 .given i .fits) (c .before .before .before .before .before .before .before .before .before .before .before .before .pre) (c .if1 .taken)
+with-key-requires c κs = read-ready (c .before .before .before .before .before .before .before .before .before .before .before .before .before .args .s .now) (sym (c .before .before .before .before .before .before .before .before .before .read-token .ensures) ∙ c .before .before .before .before .before .before .before .token .given .1) (λ i. c .before .before .before .before .before .before .before .before .before .before .before .shared-slice-known2 .given i .fits) (c .before .before .before .before .before .before .before .before .before .before .before .before .before .pre) (c .if1 .taken)
 
 returns : tie.Need-returns
-returns c = c .with-key .ensures ∙ with-its-key (c .before .before .before .before .before .before .before .before .before .before .before .before .before .args .table .now) (c .before .before .before .before .before .before .before .before .before .before .before .before .before .args .s .now) (c .before .before .before .before .before .before .before .before .before .before .before .before .before .args .body .now) (c .before .before .before .before .before .before .before .before .before .before .before .before .before .args .asked) (c .before .before .before .before .before .before .before .before .before .before .before .before .before .args .tenant .now) (sym (c .before .before .before .before .before .before .before .before .read-token .ensures) ∙ c .before .before .before .before .before .before .count .given .1) (c .before .before .before .before .part .ensures .0) (c .before .before .before .part2 .ensures .0) (c .before .before .find .ensures .0) (c .before .if1 .taken)
+returns c = c .with-key .ensures ∙ with-its-key (c .before .before .before .before .before .before .before .before .before .before .before .before .before .before .args .table .now) (c .before .before .before .before .before .before .before .before .before .before .before .before .before .before .args .s .now) (c .before .before .before .before .before .before .before .before .before .before .before .before .before .before .args .body .now) (c .before .before .before .before .before .before .before .before .before .before .before .before .before .before .args .request) (sym (c .before .before .before .before .before .before .before .before .before .before .read-token .ensures) ∙ c .before .before .before .before .before .before .before .before .token .given .1) (c .before .before .before .before .lend .ensures .0) (c .before .before .before .lend2 .ensures .0) (c .before .before .find .ensures .0) (c .before .if1 .taken)
 
 returns-2 : tie.Need-returns-2
-returns-2 c = unreadable (c .before .before .before .before .before .before .before .before .args .table .now) (c .before .before .before .before .before .before .before .before .args .s .now) (c .before .before .before .before .before .before .before .before .args .body .now) (c .before .before .before .before .before .before .before .before .args .asked) (c .before .before .before .before .before .before .before .before .args .tenant .now) (sym (c .before .before .before .read-token .ensures) ∙ c .before .kind .given .1)
+returns-2 c = unreadable (c .before .before .before .before .before .before .before .args .table .now) (c .before .before .before .before .before .before .before .args .s .now) (c .before .before .before .before .before .before .before .args .body .now) (c .before .before .before .before .before .before .before .args .request) (sym (c .before .before .before .read-token .ensures) ∙ c .before .kind .given .1)
 
 returns-3 : tie.Need-returns-3
-returns-3 c = no-key (c .before .before .before .before .before .before .before .before .before .before .before .before .args .table .now) (c .before .before .before .before .before .before .before .before .before .before .before .before .args .s .now) (c .before .before .before .before .before .before .before .before .before .before .before .before .args .body .now) (c .before .before .before .before .before .before .before .before .before .before .before .before .args .asked) (c .before .before .before .before .before .before .before .before .before .before .before .before .args .tenant .now) (sym (c .before .before .before .before .before .before .before .read-token .ensures) ∙ c .before .before .before .before .before .count .given .1) (c .before .before .before .part .ensures .0) (c .before .before .part2 .ensures .0) (c .before .find .ensures .0) (c .if1 .left)
+returns-3 c = no-key (c .before .before .before .before .before .before .before .before .before .before .before .before .before .args .table .now) (c .before .before .before .before .before .before .before .before .before .before .before .before .before .args .s .now) (c .before .before .before .before .before .before .before .before .before .before .before .before .before .args .body .now) (c .before .before .before .before .before .before .before .before .before .before .before .before .before .args .request) (sym (c .before .before .before .before .before .before .before .before .before .read-token .ensures) ∙ c .before .before .before .before .before .before .before .token .given .1) (c .before .before .before .lend .ensures .0) (c .before .before .lend2 .ensures .0) (c .before .find .ensures .0) (c .if1 .left)
 
 pub judge-bytes-spec : {M : Type 1} → statement M
 judge-bytes-spec =
@@ -46,9 +42,9 @@ judge-bytes-spec =
     (tie.spec
     read-token-requires
     enum-known-kind
-    enum-known-count
-    part-requires
-    part-requires-2
+    enum-known-token
+    lend-requires
+    lend-requires-2
     find-requires
     with-key-requires
     returns

@@ -7,11 +7,9 @@ use Rattle.verify.proofs.judge_text.Statement.{statement}
 use Rattle.verify.proofs.judge_text.Tie as tie
 use Rattle.verify.proofs.judge_text.Reads as reads
 use Rattle.verify.proofs.judge_text.Lts as lts
-use Rattle.text_reading.proofs.decode.Reads as decode-reads
-use Rattle.verify.proofs.judge_bytes.Reads as judge-bytes-reads
 
 returns : tie.Need-returns
-returns c = too-long (c .before .before .before .before .before .args .table .now) (c .before .before .before .before .before .args .text .now) (c .before .before .before .before .before .args .body .now) (c .before .before .before .before .before .args .asked) (c .before .before .before .before .before .args .tenant .now) (c .if1 .taken)
+returns c = too-long (c .before .before .before .before .args .table .now) (c .before .before .before .before .args .text .now) (c .before .before .before .before .args .body .now) (c .before .before .before .before .args .request) (c .if1 .taken)
 
 slice-aggregate-decode : tie.Need-slice-aggregate-decode
 slice-aggregate-decode c = search needs
@@ -41,13 +39,13 @@ judge-bytes-requires : tie.Need-judge-bytes-requires
 judge-bytes-requires c κs = lent-short _ _ _ _ (c .before .before .before .before .before .before .decode .ensures) (c .before .before .before .n .given .1) (length-replicate {A = ℕ} 4096 0)
 
 returns-2 : tie.Need-returns-2
-returns-2 c = not-text (c .before .before .before .before .before .before .before .before .before .before .args .table .now) (c .before .before .before .before .before .before .before .before .before .before .args .text .now) (c .before .before .before .before .before .before .before .before .before .before .args .body .now) (c .before .before .before .before .before .before .before .before .before .before .args .asked) (c .before .before .before .before .before .before .before .before .before .before .args .tenant .now) (c .before .before .before .before .before .if1 .left) _ (length-replicate {A = ℕ} 4096 0) _ _ (c .before .before .before .decode .ensures) (c .enum-told .given .1)
+returns-2 c = not-text (c .before .before .before .before .before .before .before .before .before .args .table .now) (c .before .before .before .before .before .before .before .before .before .args .text .now) (c .before .before .before .before .before .before .before .before .before .args .body .now) (c .before .before .before .before .before .before .before .before .before .args .request) (c .before .before .before .before .before .if1 .left) _ (length-replicate {A = ℕ} 4096 0) _ _ (c .before .before .before .decode .ensures) (c .enum-told .given .1)
 
 returns-3 : tie.Need-returns-3
-returns-3 c = no-room (c .before .before .before .before .before .before .before .before .before .before .args .table .now) (c .before .before .before .before .before .before .before .before .before .before .args .text .now) (c .before .before .before .before .before .before .before .before .before .before .args .body .now) (c .before .before .before .before .before .before .before .before .before .before .args .asked) (c .before .before .before .before .before .before .before .before .before .before .args .tenant .now) (c .before .before .before .before .before .if1 .left) _ (length-replicate {A = ℕ} 4096 0) _ _ (c .before .before .before .decode .ensures) (c .enum-told2 .given .1)
+returns-3 c = no-room (c .before .before .before .before .before .before .before .before .before .args .table .now) (c .before .before .before .before .before .before .before .before .before .args .text .now) (c .before .before .before .before .before .before .before .before .before .args .body .now) (c .before .before .before .before .before .before .before .before .before .args .request) (c .before .before .before .before .before .if1 .left) _ (length-replicate {A = ℕ} 4096 0) _ _ (c .before .before .before .decode .ensures) (c .enum-told2 .given .1)
 
 returns-4 : tie.Need-returns-4
-returns-4 c = c .judge-bytes .ensures ∙ whole-text (c .before .before .before .before .before .before .before .before .before .before .before .before .before .before .args .table .now) (c .before .before .before .before .before .before .before .before .before .before .before .before .before .before .args .text .now) (c .before .before .before .before .before .before .before .before .before .before .before .before .before .before .args .body .now) (c .before .before .before .before .before .before .before .before .before .before .before .before .before .before .args .asked) (c .before .before .before .before .before .before .before .before .before .before .before .before .before .before .args .tenant .now) (c .before .before .before .before .before .before .before .before .before .if1 .left) _ (length-replicate {A = ℕ} 4096 0) _ _ (c .before .before .before .before .before .before .before .decode .ensures) (c .before .before .before .before .n .given .1) (bytes-lent _ _ _ _ (c .before .before .before .before .before .before .before .decode .ensures) (c .before .before .before .before .n .given .1))
+returns-4 c = c .judge-bytes .ensures ∙ whole-text (c .before .before .before .before .before .before .before .before .before .before .before .before .before .args .table .now) (c .before .before .before .before .before .before .before .before .before .before .before .before .before .args .text .now) (c .before .before .before .before .before .before .before .before .before .before .before .before .before .args .body .now) (c .before .before .before .before .before .before .before .before .before .before .before .before .before .args .request) (c .before .before .before .before .before .before .before .before .before .if1 .left) _ (length-replicate {A = ℕ} 4096 0) _ _ (c .before .before .before .before .before .before .before .decode .ensures) (c .before .before .before .before .n .given .1) (bytes-lent _ _ _ _ (c .before .before .before .before .before .before .before .decode .ensures) (c .before .before .before .before .n .given .1))
 
 pub judge-text-spec : {M : Type 1} → statement M
 judge-text-spec =

@@ -19,4 +19,9 @@ unfolding soFar
 returns-2 c = rw (ne-eqb _ _ (c .if1 .left))
 
 pub so-far-spec : {M : Type 1} → statement M
-so-far-spec = tie.close (tie.spec caveat-answer-requires returns returns-2)
+so-far-spec =
+    tie.close
+    (tie.spec
+    caveat-answer-requires
+    returns
+    returns-2)

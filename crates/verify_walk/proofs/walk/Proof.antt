@@ -1,27 +1,24 @@
-use mathlib.Core.Path.{refl, sym, _∙_}
+use mathlib.Core.Path.{refl, sym, ap₂, _∙_}
+use native.Mathlib.Omega.{arith}
+use Rattle.verify_walk.specs.Walking.{walkBad, walkAdd, walkEnds, overCaveats}
+use Rattle.verify_walk.proofs.Walking.{Walking, walk-start, walked-all, walk-bad, walk-on, walk-one, piece-next}
 use borrow.Author.Needs.{needs}
-use Rattle.verify_walk.proofs.Walking.{Walking, walked-all, walk-bad, walk-range, walk-one, piece-next}
 use Rattle.verify_walk.proofs.walk.Statement.{statement}
 use Rattle.verify_walk.proofs.walk.Tie as tie
 use Rattle.verify_walk.proofs.walk.Reads as reads
 use Rattle.verify_walk.proofs.walk.Lts as lts
-use Rattle.basis.proofs.least.Reads as least-reads
-use Rattle.basis.proofs.part.Reads as part-reads
-use Rattle.verify_walk.proofs.so_far.Reads as so-far-reads
-use Rattle.token_caveat.proofs.read_caveat.Reads as read-caveat-reads
-use Rattle.hash_chain.proofs.next_link.Reads as next-link-reads
 
 abbrev Inv-loop : tie.InvT-loop
-Inv-loop s from count key body asked tid p₀ k₀ link₀ answer₀ p k link answer = Walking s key body asked tid from count link₀ p k link answer
+Inv-loop s key body request tid p₀ left₀ link₀ answer₀ p left link answer = Walking walkBad (walkAdd key body request tid) s (overCaveats walkBad (walkAdd key body request tid) left₀ s p₀ (walkEnds link₀ answer₀)) p left (walkEnds link answer)
 
 abbrev μ-loop : tie.MeasureT-loop
-μ-loop s from count key body asked tid p₀ k₀ link₀ answer₀ p k link answer = k
-
-loop-holds : tie.Need-loop-holds Inv-loop μ-loop
-loop-holds c = record { range = c .before .before .before .before .fits .from .fits; rest = refl }
+μ-loop s key body request tid p₀ left₀ link₀ answer₀ p left link answer = left
 
 least-requires : tie.Need-least-requires Inv-loop μ-loop
 least-requires c κs = search needs
+
+loop-holds : tie.Need-loop-holds Inv-loop μ-loop
+loop-holds c = record { inside = omega (arith, c .least .ensures); rest = refl }
 
 sub-part : tie.Need-sub-part Inv-loop μ-loop
 sub-part c = search needs
@@ -39,34 +36,31 @@ enum-known-kind : tie.Need-enum-known-kind Inv-loop μ-loop
 enum-known-kind c = search needs
 
 returns : tie.Need-returns Inv-loop μ-loop
-returns c = walk-bad (c .before .before .before .before .before .before .before .before .before .before .before .before .args .s .now) (c .before .before .before .before .before .before .before .before .before .before .before .before .args .key .now) (c .before .before .before .before .before .before .before .before .before .before .before .before .args .body .now) (c .before .before .before .before .before .before .before .before .before .before .before .before .args .asked) (c .before .before .before .before .before .before .before .before .before .before .before .before .args .tid .now) (c .before .before .before .before .before .before .before .before .before .before .before .before .args .from) (c .before .before .before .before .before .before .before .before .before .before .before .before .args .count) (c .before .before .before .before .before .before .before .before .before .before .before .before .args .first) (c .before .before .before .before .before .before .before .loop .p) (c .before .before .before .before .before .before .before .loop .k) (c .before .before .before .before .before .before .before .loop .link) (c .before .before .before .before .before .before .before .loop .answer) (c .before .before .before .before .before .before .before .loop .inv) (c .before .before .before .before .before .before .loop-test .taken) _ (c .before .before .before .before .before .least .ensures) (sym (c .before .before .before .read-caveat .ensures) ∙ c .before .kind .given .1)
+returns c = walk-bad (c .before .before .before .before .before .before .loop .inv) (c .before .before .before .before .before .loop-test .taken) (sym (c .before .before .before .read-caveat .ensures) ∙ c .before .kind .given .1) ∙ walk-start _ _ _ _ _ _ _ (c .before .before .before .before .before .before .before .least .ensures)
 
 enum-known-caveat : tie.Need-enum-known-caveat Inv-loop μ-loop
 enum-known-caveat c = search needs
 
-part-requires : tie.Need-part-requires Inv-loop μ-loop
-part-requires c κs = search needs
-
-next-link-requires : tie.Need-next-link-requires Inv-loop μ-loop
-next-link-requires c κs = piece-next (c .before .before .before .before .before .before .before .before .before .before .before .before .before .args .key .now) (c .before .before .before .before .before .before .before .before .before .before .before .before .before .args .s .now) _ (c .before .before .before .before .before .before .least .result) (c .before .before .caveat .given .0 .1 .0) (c .before .before .before .before .before .before .before .before .before .before .before .before .before .pre) (c .part2 .ensures .0)
+link-over-requires : tie.Need-link-over-requires Inv-loop μ-loop
+link-over-requires c κs = piece-next (c .before .before .before .before .before .before .before .before .before .before .before .before .args .key .now) (c .before .before .before .before .before .before .before .before .before .before .before .before .args .s .now) _ (c .before .before .before .before .before .before .loop .p) (c .before .caveat .given .0 .1 .0) (c .before .before .before .before .before .before .before .before .before .before .before .before .pre) refl
 
 so-far-requires : tie.Need-so-far-requires Inv-loop μ-loop
 so-far-requires c κs = search needs
 
 add-p : tie.Need-add-p Inv-loop μ-loop
-add-p c = record { fits = walk-range (c .before .before .before .before .before .before .before .before .before .before .before .before .before .before .before .args .s .now) (c .before .before .before .before .before .before .before .before .before .before .before .before .before .before .before .args .key .now) (c .before .before .before .before .before .before .before .before .before .before .before .before .before .before .before .args .body .now) (c .before .before .before .before .before .before .before .before .before .before .before .before .before .before .before .args .asked) (c .before .before .before .before .before .before .before .before .before .before .before .before .before .before .before .args .tid .now) (c .before .before .before .before .before .before .before .before .before .before .before .before .before .before .before .args .from) (c .before .before .before .before .before .before .before .before .before .before .before .before .before .before .before .args .count) (c .before .before .before .before .before .before .before .before .before .before .before .before .before .before .before .args .first) (c .before .before .before .before .before .before .before .before .before .before .loop .p) (c .before .before .before .before .before .before .before .before .before .before .loop .k) (c .before .before .before .before .before .before .before .before .before .before .loop .link) (c .before .before .before .before .before .before .before .before .before .before .loop .answer) (c .before .before .before .before .before .before .before .before .before .before .loop .inv) (c .before .before .before .before .before .before .before .before .before .loop-test .taken) _ (c .before .before .before .before .before .before .before .before .least .ensures) (sym (c .before .before .before .before .before .before .read-caveat .ensures) ∙ c .before .before .before .before .caveat .given .1) (c .before .before .before .before .before .before .before .before .before .before .before .before .before .before .before .good .0 .0) }
+add-p c = record { fits = let b = walk-on (c .before .before .before .before .before .before .before .before .loop .inv) (c .before .before .before .before .before .before .before .loop-test .taken) (sym (c .before .before .before .before .before .read-caveat .ensures) ∙ c .before .before .before .caveat .given .1) in omega (arith, b, c .before .before .before .before .before .before .before .before .before .before .before .before .before .before .good .0 .0) }
 
-sub-k : tie.Need-sub-k Inv-loop μ-loop
-sub-k c = search needs
+sub-left : tie.Need-sub-left Inv-loop μ-loop
+sub-left c = search needs
 
 loop-less : tie.Need-loop-less Inv-loop μ-loop
 loop-less c = search needs
 
 loop-again : tie.Need-loop-again Inv-loop μ-loop
-loop-again c = walk-one (c .before .before .before .before .before .before .before .before .before .before .before .before .before .before .before .args .s .now) (c .before .before .before .before .before .before .before .before .before .before .before .before .before .before .before .args .key .now) (c .before .before .before .before .before .before .before .before .before .before .before .before .before .before .before .args .body .now) (c .before .before .before .before .before .before .before .before .before .before .before .before .before .before .before .args .asked) (c .before .before .before .before .before .before .before .before .before .before .before .before .before .before .before .args .tid .now) (c .before .before .before .before .before .before .before .before .before .before .before .before .before .before .before .args .from) (c .before .before .before .before .before .before .before .before .before .before .before .before .before .before .before .args .count) (c .before .before .before .before .before .before .before .before .before .before .before .before .before .before .before .args .first) (c .before .before .before .before .before .before .before .before .before .before .loop .p) (c .before .before .before .before .before .before .before .before .before .before .loop .k) (c .before .before .before .before .before .before .before .before .before .before .loop .link) (c .before .before .before .before .before .before .before .before .before .before .loop .answer) (c .before .before .before .before .before .before .before .before .before .before .loop .inv) (c .before .before .before .before .before .before .before .before .before .loop-test .taken) _ (c .before .before .before .before .before .before .before .before .least .ensures) (sym (c .before .before .before .before .before .before .read-caveat .ensures) ∙ c .before .before .before .before .caveat .given .1) (c .before .before .before .before .before .before .before .before .before .before .before .before .before .before .before .good .0 .0) (c .before .before .part2 .ensures .0) (c .before .next-link .ensures) (c .so-far .ensures)
+loop-again c = walk-one (c .before .before .before .before .before .before .before .before .loop .inv) (c .before .before .before .before .before .before .before .loop-test .taken) (sym (c .before .before .before .before .before .read-caveat .ensures) ∙ c .before .before .before .caveat .given .1) (ap₂ walkEnds (c .before .link-over .ensures) (c .so-far .ensures))
 
 returns-2 : tie.Need-returns-2 Inv-loop μ-loop
-returns-2 c = walked-all (c .before .before .before .before .before .before .args .s .now) (c .before .before .before .before .before .before .args .key .now) (c .before .before .before .before .before .before .args .body .now) (c .before .before .before .before .before .before .args .asked) (c .before .before .before .before .before .before .args .tid .now) (c .before .before .before .before .before .before .args .from) (c .before .before .before .before .before .before .args .count) (c .before .before .before .before .before .before .args .first) (c .before .loop .p) (c .before .loop .k) (c .before .loop .link) (c .before .loop .answer) (c .before .loop .inv) (c .loop-test .left)
+returns-2 c = walked-all (c .before .loop .inv) (c .loop-test .left) ∙ walk-start _ _ _ _ _ _ _ (c .before .before .least .ensures)
 
 pub walk-spec : {M : Type 1} → statement M
 walk-spec =
@@ -74,8 +68,8 @@ walk-spec =
     (tie.spec
     Inv-loop
     μ-loop
-    loop-holds
     least-requires
+    loop-holds
     sub-part
     part-part-start
     part-part-end
@@ -83,11 +77,10 @@ walk-spec =
     enum-known-kind
     returns
     enum-known-caveat
-    part-requires
-    next-link-requires
+    link-over-requires
     so-far-requires
     add-p
-    sub-k
+    sub-left
     loop-less
     loop-again
     returns-2)
