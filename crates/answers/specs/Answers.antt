@@ -1,5 +1,6 @@
--- The one numbered list: document 01, "Numbers and names". Each answer has its number and its name here, and the demands' statements
--- name answers. Definitions that follow the code have the numbers as the code has them; the demands' theorems hold them to this list.
+-- Meaning. The one numbered list: document 01, "Numbers and names". Each answer has its number and its name here, and the demands'
+-- statements name answers. Definitions that follow the code have the numbers as the code has them; the demands' theorems hold them to this
+-- list.
 use mathlib.Core.List.{List, [], _∷_}
 use Prim.Native.Nat.{ℕ}
 use lib.Dec.{eqb}

@@ -1,4 +1,4 @@
--- Where a number's name stands in the table of names: the numbers that are free have no row.
+-- Inner. Where a number's name stands in the table of names: the numbers that are free have no row.
 use Prim.Native.Nat.{ℕ, _-_}
 use lib.Dec.{ltb}
 use Rattle.basis.specs.Basis.{pick}

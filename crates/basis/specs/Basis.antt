@@ -1,5 +1,5 @@
--- Words that every crate's definitions share: a choice by a test, a name's bytes, a list by its rule, a text over the front
--- of a room. They say nothing of tokens.
+-- Meaning. Words that every crate's definitions share: a choice by a test, a name's bytes, a list by its rule, a text over the front of a
+-- room. They say nothing of tokens.
 use mathlib.Core.Path.{_≡_}
 use mathlib.Core.Bool.{Bool, true, false}
 use mathlib.Core.List.{List, [], _∷_, _++_}

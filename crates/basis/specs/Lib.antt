@@ -1,3 +1,4 @@
 pub mod Basis
 pub mod Tabs
 pub mod Same
+pub mod Limits

@@ -1,4 +1,4 @@
--- Whether two strings of bytes are the same, decided byte by byte.
+-- Meaning. Whether two strings of bytes are the same, decided byte by byte.
 use mathlib.Core.Bool.{Bool, true, false}
 use mathlib.Core.List.{List, [], _∷_}
 use Prim.Native.Nat.{ℕ}

@@ -1,4 +1,4 @@
--- Laws of `tab`: how long such a list is, what stands in it, when two are the same.
+-- Inner. Laws of `tab`: how long such a list is, what stands in it, when two are the same.
 use mathlib.Core.Path.{_≡_, refl, sym, ap, ap₂, _∙_}
 use mathlib.Core.Bool.{Bool, true, false}
 use mathlib.Core.List.{List, [], _∷_, _++_}

@@ -4,6 +4,8 @@ ghost use Prim.Native.Nat.{min};
 ghost use Rattle.basis.specs.Basis.{between, behind, partPlace, Written};
 ghost use Rattle.basis.specs.Same.{sameOf};
 
+pub mod limits;
+
 // A part of a slice, by where it begins and where it ends.
 pub struct Span {
     pub from: usize,

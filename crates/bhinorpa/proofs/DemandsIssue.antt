@@ -9,13 +9,13 @@ use Rattle.basis.specs.Basis.{IsBytes}
 use Rattle.basis.proofs.All.{all}
 use Rattle.token_scope.specs.Scopes.{Scope}
 use Rattle.records_table.specs.Tables.{Row, hasRow, keyIn}
-use Rattle.outcome.specs.Decisions.{Decision, answerOf, Carried}
+use Rattle.outcome.specs.Decisions.{Decision, answerFor, Carried}
 use Rattle.outcome.specs.declared.Outcome.{Outcome}
 use Rattle.issue.specs.Issuing.{issueOf}
 use Rattle.issue.proofs.Fresh.{known-named}
 use Rattle.issue.proofs.OneAnswer.{issue-one-answer}
-use Rattle.bhinorpa.specs.Allowed.{TableOf, tokenText, caveatBytes, chainTag}
-use Rattle.bhinorpa.specs.NewTokens.{ScopeOf, Grant, freshToken, Issued}
+use Rattle.bhinorpa.specs.Allowed.{EncodesTable, tokenText, caveatBytes, chainTag}
+use Rattle.bhinorpa.specs.NewTokens.{EncodesScope, Grant, freshToken, Issued}
 use Rattle.bhinorpa.specs.Verdicts.{out-short, done, IssueVerdict, issue-table-bad, issue-scope-bad, issue-kid-unknown, issue-grants, oneOf, issueAnswers}
 use Rattle.bhinorpa.specs.Demands.{IssueList, IssueFirstFailing, IssueVerdictOne, IdsOfRows, IssueRefusals, IssueWrites}
 use Rattle.bhinorpa.proofs.Lists.{listed}
@@ -31,13 +31,13 @@ issue-first-failing table tid kid bytes bt bb entry outcome exit w = by-table (t
     h : Decision
     h = issueOf table tid kid bytes
 
-    by-row : (rows : List Row) → TableOf table rows → (scope : Scope) → ScopeOf bytes scope → (b : Bool) → hasRow rows tid kid ≡ b → IssueVerdict table tid kid bytes entry outcome exit
+    by-row : (rows : List Row) → EncodesTable table rows → (scope : Scope) → EncodesScope bytes scope → (b : Bool) → hasRow rows tid kid ≡ b → IssueVerdict table tid kid bytes entry outcome exit
     by-row rows t scope s false k = issue-kid-unknown rows t scope s k (refuses h entry outcome exit 7 (issue-unknown table tid kid bytes rows t scope s k) w)
     by-row rows t scope s true k =
         let g : Grant table tid kid bytes rows scope = record { table-is = t; scope-is = s; known = k } in
         issue-grants rows scope g (in-room h entry outcome exit (tokenText (freshToken rows scope tid kid)) (issue-granted table tid kid bytes rows scope g) w)
 
-    by-scope : (rows : List Row) → TableOf table rows → ScopeIs bytes → IssueVerdict table tid kid bytes entry outcome exit
+    by-scope : (rows : List Row) → EncodesTable table rows → ScopeIs bytes → IssueVerdict table tid kid bytes entry outcome exit
     by-scope rows t (no-scope n d) = issue-scope-bad rows t n d (refuses h entry outcome exit n (issue-defect table tid kid bytes rows t n d) w)
     by-scope rows t (one-scope scope s) = by-row rows t scope s (hasRow rows tid kid) refl
 
@@ -76,7 +76,7 @@ ids-of-rows rows g tid kid e = let n = known-named rows g tid kid e in (n .good-
 
 pub issue-refusals : IssueRefusals
 issue-refusals table tid kid bytes rows scope g entry outcome exit w =
-    w .answer ∙ ap (λ (h : Decision). answerOf h (length entry)) (issue-granted table tid kid bytes rows scope g)
+    w .answer ∙ ap (λ (h : Decision). answerFor h (length entry)) (issue-granted table tid kid bytes rows scope g)
 
 fresh-tagged : (rows : List Row) (scope : Scope) (tid kid : List ℕ) → chainTag (keyIn rows tid kid) (freshToken rows scope tid kid) ≡ freshToken rows scope tid kid .tag
 unfolding caveatBytes

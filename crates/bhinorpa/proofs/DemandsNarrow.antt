@@ -15,12 +15,12 @@ use Rattle.basis.proofs.Sameness.{same-equal, equal-same}
 use Rattle.token_caveat.specs.Caveats.{Caveat}
 use Rattle.token.specs.Tokens.{Token, encodeToken}
 use Rattle.records_table.specs.Tables.{Row, hasRow}
-use Rattle.outcome.specs.Decisions.{Decision, refused, granted, answerOf, Carried}
+use Rattle.outcome.specs.Decisions.{Decision, refused, granted, answerFor, Carried}
 use Rattle.outcome.specs.declared.Outcome.{Outcome}
 use Rattle.narrow.specs.Narrowing.{narrowOf}
 use Rattle.narrow.proofs.OneAnswer.{narrow-one-answer}
-use Rattle.bhinorpa.specs.Allowed.{TableOf, tokenText, Canonical, chainTag, keyFor}
-use Rattle.bhinorpa.specs.NewTokens.{CaveatOf, Parent, childToken}
+use Rattle.bhinorpa.specs.Allowed.{EncodesTable, tokenText, Canonical, chainTag, keyFor}
+use Rattle.bhinorpa.specs.NewTokens.{EncodesCaveat, Parent, childToken}
 use Rattle.bhinorpa.specs.Verdicts.{RoomVerdict, out-short, done, NarrowVerdict, narrow-table-bad, narrow-no-token, narrow-kid-unknown, narrow-mac, narrow-caveat-bad, narrow-full, narrow-size-full, narrow-child, oneOf, narrowAnswers}
 use Rattle.bhinorpa.specs.Demands.{NarrowList, NarrowFirstFailing, NarrowVerdictOne, NarrowWrites, NarrowingRefusals}
 use Rattle.bhinorpa.proofs.Lists.{listed}
@@ -40,7 +40,7 @@ module _ (table text bytes : List ℕ) (bt : IsBytes table) (bb : IsBytes bytes)
 
   -- behind the tag
   module _ (rows : List Row) (token : Token) (p : Parent table text rows token) where
-    by-size : (added : Caveat) → CaveatOf bytes added → length (token .caveats) < 64 → (b : Bool) → ltb 4096 (length (encodeToken (childToken rows token added))) ≡ b → Is
+    by-size : (added : Caveat) → EncodesCaveat bytes added → length (token .caveats) < 64 → (b : Bool) → ltb 4096 (length (encodeToken (childToken rows token added))) ≡ b → Is
     by-size added a l true q =
         let g = ltb-true 4096 (length (encodeToken (childToken rows token added))) q in
         narrow-size-full rows token p added a l g (refuses h entry outcome exit 35 (narrow-too-large table text bytes rows token p added a l g) w)
@@ -49,7 +49,7 @@ module _ (table text bytes : List ℕ) (bt : IsBytes table) (bb : IsBytes bytes)
         narrow-child rows token p added a l g
         (in-room h entry outcome exit (tokenText (childToken rows token added)) (narrow-granted table text bytes rows token p added a l g) w)
 
-    by-count : (added : Caveat) → CaveatOf bytes added → (b : Bool) → eqb (length (token .caveats)) 64 ≡ b → Is
+    by-count : (added : Caveat) → EncodesCaveat bytes added → (b : Bool) → eqb (length (token .caveats)) 64 ≡ b → Is
     by-count added a true q =
         let f = eqb-true (length (token .caveats)) 64 q in
         narrow-full rows token p added a f (refuses h entry outcome exit 34 (narrow-is-full table text bytes rows token p added a f) w)
@@ -60,7 +60,7 @@ module _ (table text bytes : List ℕ) (bt : IsBytes table) (bb : IsBytes bytes)
     by-caveat (no-caveat n d) = narrow-caveat-bad rows token p n d (refuses h entry outcome exit (n + 27) (narrow-caveat-defect table text bytes rows token p n d) w)
     by-caveat (one-caveat added a) = by-count added a (eqb (length (token .caveats)) 64) refl
 
-  module _ (rows : List Row) (t : TableOf table rows) (token : Token) (c : Canonical text token) where
+  module _ (rows : List Row) (t : EncodesTable table rows) (token : Token) (c : Canonical text token) where
     abbrev link : List ℕ
     link = chainTag (keyFor rows token) token
 
@@ -77,7 +77,7 @@ module _ (table text bytes : List ℕ) (bt : IsBytes table) (bb : IsBytes bytes)
     by-row true k = by-tag k (sameOf link (token .tag)) refl
     by-row false k = narrow-kid-unknown rows t token c k (refuses h entry outcome exit 7 (narrow-unknown table text bytes rows t token c k) w)
 
-  by-text : (rows : List Row) → TableOf table rows → TextIs text → Is
+  by-text : (rows : List Row) → EncodesTable table rows → TextIs text → Is
   by-text rows t (no-token n d) = narrow-no-token rows t n d (refuses h entry outcome exit n (narrow-defect table text bytes rows t n d) w)
   by-text rows t (one-token token c) = by-row rows t token c (hasRow rows (token .tid) (token .kid)) refl
 
@@ -129,7 +129,7 @@ pub record Child (table text bytes entry : List ℕ) (outcome : Outcome) (exit :
   pub token : Token
   pub parent : Parent table text rows token
   pub added : Caveat
-  pub caveat-is : CaveatOf bytes added
+  pub caveat-is : EncodesCaveat bytes added
   pub canonical : Canonical (tokenText (childToken rows token added)) (childToken rows token added)
   pub room : RoomVerdict (tokenText (childToken rows token added)) entry outcome exit
 
@@ -180,7 +180,7 @@ narrowing-refusals table text bytes rows token p added a entry outcome exit w =
     child = childToken rows token added
 
     answer : Decision → ℕ
-    answer h = answerOf h (length entry)
+    answer h = answerFor h (length entry)
 
     sized-answer : (b : Bool) → answer (pick b (refused 35) (granted (tokenText child))) ≡ pick b 35 (pick (leb (length (tokenText child)) (length entry)) 0 36)
     sized-answer true = refl

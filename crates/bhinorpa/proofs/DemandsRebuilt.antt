@@ -22,7 +22,7 @@ use Rattle.outcome.proofs.Sizes.{short-text}
 use Rattle.issue.specs.Issuing.{issueOf}
 use Rattle.narrow.specs.Narrowing.{narrowOf}
 use Rattle.bhinorpa.specs.Allowed.{tokenText, Canonical, caveatBytes, keyFor}
-use Rattle.bhinorpa.specs.NewTokens.{CaveatOf, Grant, Parent, childToken, Call, leftBy, Narrowings, lastOf, AllDone}
+use Rattle.bhinorpa.specs.NewTokens.{EncodesCaveat, Grant, Parent, childToken, Call, leftBy, Narrowings, lastCall, AllDone}
 use Rattle.bhinorpa.specs.Verdicts.{RoomVerdict, out-short, done}
 use Rattle.bhinorpa.specs.Demands.{Rebuilt, RoomEnough}
 use Rattle.bhinorpa.proofs.AreBytes.{front-bytes, token-bytes, parts-bytes}
@@ -153,7 +153,7 @@ module _ (table text : List ℕ) (rows : List Row) (t : Token) (p : Parent table
       let u = part rows t before in
       let parent : Parent table (out before) rows u =
       record { table-is = p .table-is; canonical = part-canonical rows text t w before (c ∷ rest) e; known = p .known; tagged = refl } in
-      let added : CaveatOf (encodeCaveat c) c = record { good = all-at before c rest (subst AllCaveats e (w .good .each)); written = refl } in
+      let added : EncodesCaveat (encodeCaveat c) c = record { good = all-at before c rest (subst AllCaveats e (w .good .each)); written = refl } in
       let few : length before < 64 = omega (arith, counted rows text t w before (c ∷ rest) e, w .good .few) in
       let same = one-more rows text t w before c in
       let short = part-short rows text t w (before ++ (c ∷ [])) rest (e ∙ sym (append-assoc before (c ∷ []) rest)) in
@@ -165,8 +165,8 @@ module _ (table text : List ℕ) (rows : List Row) (t : Token) (p : Parent table
 
   -- from a call that left the part with some of the caveats on
   narrowed-rest : (rest before : List Caveat) → t .caveats ≡ before ++ rest → (first : Call) → leftBy first ≡ out before
-      → (calls : List Call) → Narrowings table (leftBy first) (caveatBytes rest) calls → AllDone calls × (leftBy (lastOf first calls) ≡ out (t .caveats))
-  unfolding Narrowings caveatBytes lastOf AllDone
+      → (calls : List Call) → Narrowings table (leftBy first) (caveatBytes rest) calls → AllDone calls × (leftBy (lastCall first calls) ≡ out (t .caveats))
+  unfolding Narrowings caveatBytes lastCall AllDone
   narrowed-rest [] before e first l [] n = (tt, l ∙ ap out (sym (e ∙ append-nil before)))
   narrowed-rest [] before e first l (call ∷ calls) n = elim n [ ]
   narrowed-rest (c ∷ rest) before e first l [] n = elim n [ ]

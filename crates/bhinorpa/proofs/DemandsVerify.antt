@@ -18,7 +18,7 @@ use Rattle.rules.specs.Holding.{failing, caveatHolds}
 use Rattle.rules.proofs.Meanings as meanings
 use Rattle.verify.specs.Verifying.{verifyOf}
 use Rattle.verify.proofs.Numbers.{verify-low}
-use Rattle.bhinorpa.specs.Allowed.{TableOf, RequestOf, chainTag, keyFor, methodHolds, pathHolds, bytesHold, firstFailing, caveatChecks, scopeChecks, checksOf, EachHolds, AllHold, Allowed}
+use Rattle.bhinorpa.specs.Allowed.{EncodesTable, EncodesRequest, chainTag, keyFor, methodHolds, pathHolds, bytesHold, failingFirst, caveatChecks, scopeChecks, checksOf, EachHolds, AllHold, Allowed}
 use Rattle.bhinorpa.specs.Verdicts.{Verdict, table-bad, ctx-bad, no-token, judged, oneOf, verifyAnswers}
 use Rattle.bhinorpa.specs.Demands.{VerifyList, FirstFailing, VerdictOne, AllowedExactly, FirstBits, NoPeer}
 use Rattle.bhinorpa.proofs.Judged.{failing-some}
@@ -33,11 +33,11 @@ verify-list table request text = all-at 22 (oneOf verifyAnswers) refl (verifyOf 
 pub first-failing : FirstFailing
 first-failing table request text bt br = by-table (table-is table bt)
   where
-    by-text : (rows : List Row) → TableOf table rows → (asked : Request) → RequestOf request asked → TextIs text → Verdict table request text (verifyOf table request text)
+    by-text : (rows : List Row) → EncodesTable table rows → (asked : Request) → EncodesRequest request asked → TextIs text → Verdict table request text (verifyOf table request text)
     by-text rows t asked r (text-defect n d) = let e = verify-defect table request rows t asked r text n d in rw e (no-token rows t asked r d)
     by-text rows t asked r (one-token token c) = judged rows t asked r token c (verify-token table request rows t asked r text token c)
 
-    by-request : (rows : List Row) → TableOf table rows → RequestIs request → Verdict table request text (verifyOf table request text)
+    by-request : (rows : List Row) → EncodesTable table rows → RequestIs request → Verdict table request text (verifyOf table request text)
     by-request rows t (no-request h e) = ctx-bad rows t h (verify-no-request table request text (good-table table rows t) e)
     by-request rows t (one-request asked r) = by-text rows t asked r (text-is text)
 
@@ -63,20 +63,20 @@ passed false n rest h e =
     let z : ⊥ = omega arith in
     elim z [ ]
 
-each-passed : (asked : Request) (tid : List ℕ) (cs : List Caveat) → firstFailing (caveatChecks asked tid cs) ≡ 0 → EachHolds asked tid cs
-unfolding firstFailing caveatChecks EachHolds
+each-passed : (asked : Request) (tid : List ℕ) (cs : List Caveat) → failingFirst (caveatChecks asked tid cs) ≡ 0 → EachHolds asked tid cs
+unfolding failingFirst caveatChecks EachHolds
 each-passed asked tid [] e = tt
 each-passed asked tid (c ∷ cs) e =
-    let p = passed (caveatHolds asked tid c) (numberOf (failing c)) (firstFailing (caveatChecks asked tid cs)) (failing-some c) e in
+    let p = passed (caveatHolds asked tid c) (numberOf (failing c)) (failingFirst (caveatChecks asked tid cs)) (failing-some c) e in
     (p .0, each-passed asked tid cs (p .1))
 
-each-passes : (asked : Request) (tid : List ℕ) (cs : List Caveat) → EachHolds asked tid cs → firstFailing (caveatChecks asked tid cs) ≡ 0
-unfolding firstFailing caveatChecks EachHolds
+each-passes : (asked : Request) (tid : List ℕ) (cs : List Caveat) → EachHolds asked tid cs → failingFirst (caveatChecks asked tid cs) ≡ 0
+unfolding failingFirst caveatChecks EachHolds
 each-passes asked tid [] h = refl
 each-passes asked tid (c ∷ cs) h = rw (h .0) (each-passes asked tid cs (h .1))
 
-all-passed : (rows : List Row) (asked : Request) (token : Token) → firstFailing (checksOf rows asked token) ≡ 0 → AllHold rows asked token
-unfolding firstFailing checksOf scopeChecks
+all-passed : (rows : List Row) (asked : Request) (token : Token) → failingFirst (checksOf rows asked token) ≡ 0 → AllHold rows asked token
+unfolding failingFirst checksOf scopeChecks
 all-passed rows asked token e =
     let scope = token .scope in
     let p7 = passed (hasRow rows (token .tid) (token .kid)) 7 _ refl e in
@@ -95,8 +95,8 @@ all-passed rows asked token e =
       caveats-hold = each-passed asked (token .tid) (token .caveats) (p12 .1);
     }
 
-all-pass : (rows : List Row) (asked : Request) (token : Token) → AllHold rows asked token → firstFailing (checksOf rows asked token) ≡ 0
-unfolding firstFailing checksOf scopeChecks
+all-pass : (rows : List Row) (asked : Request) (token : Token) → AllHold rows asked token → failingFirst (checksOf rows asked token) ≡ 0
+unfolding failingFirst checksOf scopeChecks
 all-pass rows asked token a =
     rw (
       a .known,

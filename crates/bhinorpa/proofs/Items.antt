@@ -17,7 +17,7 @@ use Rattle.token_caveat_values.specs.declared.CaveatParts.{CaveatParts}
 use Rattle.token_caveat_values.specs.declared.CaveatParts.the-variants.{Of as CaveatFound, Bad as NoCaveat}
 use Rattle.token_caveat.proofs.CaveatLaws.{caveat-read}
 use Rattle.token_caveat.proofs.DefectKinds.{caveat-kind}
-use Rattle.bhinorpa.specs.NewTokens.{ScopeOf, CaveatOf}
+use Rattle.bhinorpa.specs.NewTokens.{EncodesScope, EncodesCaveat}
 use Rattle.bhinorpa.specs.Verdicts.{ScopeDefect, scope-unreadable, scope-left-over, CaveatDefect, caveat-unreadable, caveat-left-over}
 
 -- an item at the front of bytes: it is all of them, or something is left
@@ -33,7 +33,7 @@ whole bytes item rest e z = e ∙ ap (λ (t : List ℕ). item ++ t) z ∙ append
 
 pub data ScopeIs (bytes : List ℕ) : Type 0 where
   no-scope : (n : ℕ) → ScopeDefect bytes n → ScopeIs bytes
-  one-scope : (scope : Scope) → ScopeOf bytes scope → ScopeIs bytes
+  one-scope : (scope : Scope) → EncodesScope bytes scope → ScopeIs bytes
 
 pub scope-is : (bytes : List ℕ) → IsBytes bytes → ScopeIs bytes
 scope-is bytes b = by (scopeOf bytes 0) refl
@@ -48,7 +48,7 @@ scope-is bytes b = by (scopeOf bytes 0) refl
 
 pub data CaveatIs (bytes : List ℕ) : Type 0 where
   no-caveat : (n : ℕ) → CaveatDefect bytes n → CaveatIs bytes
-  one-caveat : (caveat : Caveat) → CaveatOf bytes caveat → CaveatIs bytes
+  one-caveat : (caveat : Caveat) → EncodesCaveat bytes caveat → CaveatIs bytes
 
 pub caveat-is : (bytes : List ℕ) → IsBytes bytes → CaveatIs bytes
 caveat-is bytes b = by (caveatOf bytes) refl

@@ -29,7 +29,7 @@ use Rattle.rules.proofs.RuleLaws.{scope-law, caveat-law}
 use Rattle.verify_walk.specs.Walking.{soFar, walkEnds, overCaveats, walkBad, walkAdd, walkedOf, scopeAnswered, tenantJudged, tagJudged, keyJudged}
 use Rattle.verify_walk.specs.declared.Walked.{Walked}
 use Rattle.verify.specs.Verifying.{keyFound, tokenJudged, bytesJudged}
-use Rattle.bhinorpa.specs.Allowed.{caveatBytes, chainTag, keyFor, methodHolds, pathHolds, bytesHold, firstFailing, caveatChecks, scopeChecks, checksOf}
+use Rattle.bhinorpa.specs.Allowed.{caveatBytes, chainTag, keyFor, methodHolds, pathHolds, bytesHold, failingFirst, caveatChecks, scopeChecks, checksOf}
 use Rattle.bhinorpa.proofs.Walks.{Lies, over-law}
 
 -- answers one behind the other
@@ -88,17 +88,17 @@ scope-first r x rest = by (methodHolds r x) (pathHolds r x) (bytesHold r x)
 module _ (body tid key : List ℕ) (r : Request) (q : RequestAt) (h : RequestHeld body r q) where
   -- chain and answer of the tree's caveats, behind those before them
   abbrev treeEnds : List Caveat → Walked → Walked
-  treeEnds cs w = walkEnds (chainOf key (w .link) (caveatBytes cs)) (soFar (w .answer) (firstFailing (caveatChecks r tid cs)))
+  treeEnds cs w = walkEnds (chainOf key (w .link) (caveatBytes cs)) (soFar (w .answer) (failingFirst (caveatChecks r tid cs)))
 
   ends-none : (w : Walked) → treeEnds [] w ≡ w
-  unfolding chainOf caveatBytes firstFailing caveatChecks
+  unfolding chainOf caveatBytes failingFirst caveatChecks
   ends-none w = rw (so-far-none (w .answer))
 
   ends-one : (c : Caveat) (cs : List Caveat) (part : List ℕ) → Lies part c → (w : Walked)
       → treeEnds cs (walkAdd key body q tid w part (partOf c) (length (encodeCaveat c))) ≡ treeEnds (c ∷ cs) w
-  unfolding chainOf caveatBytes firstFailing caveatChecks
+  unfolding chainOf caveatBytes failingFirst caveatChecks
   ends-one c cs part l w =
-      let rest = firstFailing (caveatChecks r tid cs) in
+      let rest = failingFirst (caveatChecks r tid cs) in
       rw (
         l .alone,
         caveat-law part body tid r q h c (partOf c) (l .good) (l .found .holds),
@@ -118,13 +118,13 @@ module _ (body tid key : List ℕ) (r : Request) (q : RequestAt) (h : RequestHel
 module _ (body key : List ℕ) (r : Request) (q : RequestAt) (h : RequestHeld body r q) (s : List ℕ) (t : Token) (g : GoodToken t) where
   -- the last link and the caveats' answer
   abbrev ends : Walked
-  ends = walkEnds (chainTag key t) (firstFailing (caveatChecks r (t .tid) (t .caveats)))
+  ends = walkEnds (chainTag key t) (failingFirst (caveatChecks r (t .tid) (t .caveats)))
 
   tag-first : tagJudged (t .tag) (t .tid) (r .tenant) (scopeAnswer r (t .scope)) ends
       ≡ pick (sameOf (chainTag key t) (t .tag))
-      (pick (sameOf (t .tid) (r .tenant)) (firstFailing (scopeChecks r (t .scope) (caveatChecks r (t .tid) (t .caveats)))) 9) 8
-  unfolding tenantJudged firstFailing scopeChecks
-  tag-first = rw (scope-first r (t .scope) (firstFailing (caveatChecks r (t .tid) (t .caveats))))
+      (pick (sameOf (t .tid) (r .tenant)) (failingFirst (scopeChecks r (t .scope) (caveatChecks r (t .tid) (t .caveats)))) 9) 8
+  unfolding tenantJudged failingFirst scopeChecks
+  tag-first = rw (scope-first r (t .scope) (failingFirst (caveatChecks r (t .tid) (t .caveats))))
 
   module _ {p : TokenAt} (w : Holds s t p) where
     walk-ends : walkedOf s (p .caveats) key body q (t .tid) (firstLink key (t .tid) (t .kid) (encodeScope (t .scope))) ≡ ends
@@ -149,8 +149,8 @@ module _ (body key : List ℕ) (r : Request) (q : RequestAt) (h : RequestHeld bo
 
 -- of a token within limits, whole
 pub token-law : (rows : List Row) → GoodTable rows → (body : List ℕ) (r : Request) (q : RequestAt) → RequestHeld body r q → (t : Token) → GoodToken t → (s : List ℕ)
-    → s ≡ encodeToken t → bytesJudged (encodeTable rows) s body q ≡ firstFailing (checksOf rows r t)
-unfolding bytesJudged tokenJudged keyFound checksOf firstFailing
+    → s ≡ encodeToken t → bytesJudged (encodeTable rows) s body q ≡ failingFirst (checksOf rows r t)
+unfolding bytesJudged tokenJudged keyFound checksOf failingFirst
 token-law rows gr body r q h t g s e =
     let w = token-written t g s e in
     let key = keyFor rows t in

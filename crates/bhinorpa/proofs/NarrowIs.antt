@@ -22,8 +22,8 @@ use Rattle.outcome.specs.Decisions.{refused, granted}
 use Rattle.narrow_child.specs.Child.{sized}
 use Rattle.narrow.specs.Narrowing.{tokenNarrowed, bytesNarrowed, decodedNarrowed, textNarrowed, narrowOf}
 use Rattle.narrow.proofs.Narrowed.{narrow-too-long, narrow-bad-table, narrow-good-table}
-use Rattle.bhinorpa.specs.Allowed.{TableOf, tokenText, Canonical, chainTag, keyFor}
-use Rattle.bhinorpa.specs.NewTokens.{CaveatOf, Parent, childToken}
+use Rattle.bhinorpa.specs.Allowed.{EncodesTable, tokenText, Canonical, chainTag, keyFor}
+use Rattle.bhinorpa.specs.NewTokens.{EncodesCaveat, Parent, childToken}
 use Rattle.bhinorpa.specs.Verdicts.{NoTable, TextDefect, CaveatDefect, caveat-unreadable, caveat-left-over}
 use Rattle.bhinorpa.proofs.Tables.{good-table, bad-table}
 use Rattle.bhinorpa.proofs.Texts.{bytes-few, Unread, unread-long, unread-fault, unread-bytes, defect-unread}
@@ -47,7 +47,7 @@ module _ (table text bytes : List ℕ) where
   pub narrow-no-table : IsBytes table → NoTable table → narrowOf table text bytes ≡ refused 1
   narrow-no-table b h = sym (narrow-bad-table table text bytes (bad-table table b h))
 
-  module _ (rows : List Row) (t : TableOf table rows) where
+  module _ (rows : List Row) (t : EncodesTable table rows) where
     pub narrow-defect : (n : ℕ) → TextDefect text n → narrowOf table text bytes ≡ refused n
     narrow-defect n d = sym (narrow-good-table table text bytes (good-table table rows t)) ∙ unread-refused table text bytes n (defect-unread text n d)
 
@@ -71,7 +71,7 @@ module _ (table text bytes : List ℕ) where
         let w = caveat-written caveat g bytes rest e in
         tagged ∙ rw (w .answer, ne-eqb (length (encodeCaveat caveat)) (length bytes) (all-left bytes (encodeCaveat caveat) rest e h)) (ap (λ (k : ℕ). refused (k + 27)) (sym z))
 
-    module _ (added : Caveat) (a : CaveatOf bytes added) where
+    module _ (added : Caveat) (a : EncodesCaveat bytes added) where
       child : List ℕ
       child = encodeToken (childToken rows token added)
 

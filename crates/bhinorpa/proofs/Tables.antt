@@ -8,10 +8,10 @@ use Rattle.basis.specs.Basis.{pick, IsBytes}
 use Rattle.records_table.specs.Tables.{Row}
 use Rattle.records_table.specs.Reading.{tableOk}
 use Rattle.records_table.proofs.TableLaws.{table-written, table-read}
-use Rattle.bhinorpa.specs.Allowed.{TableOf}
+use Rattle.bhinorpa.specs.Allowed.{EncodesTable}
 use Rattle.bhinorpa.specs.Verdicts.{NoTable}
 
-pub good-table : (table : List ℕ) (rows : List Row) → TableOf table rows → tableOk table ≡ true
+pub good-table : (table : List ℕ) (rows : List Row) → EncodesTable table rows → tableOk table ≡ true
 good-table table rows t = ap tableOk (t .written) ∙ table-written rows (t .good)
 
 pub bad-table : (table : List ℕ) → IsBytes table → NoTable table → tableOk table ≡ false
@@ -24,7 +24,7 @@ bad-table table b h = by (tableOk table) refl
 -- every table's bytes have rows, or are no table's
 pub data TableIs (table : List ℕ) : Type 0 where
   no-table : NoTable table → TableIs table
-  one-table : (rows : List Row) → TableOf table rows → TableIs table
+  one-table : (rows : List Row) → EncodesTable table rows → TableIs table
 
 pub table-is : (table : List ℕ) → IsBytes table → TableIs table
 table-is table b = by (tableOk table) refl

@@ -25,13 +25,13 @@ use Rattle.records_request.proofs.RequestRead.{request-read}
 use Rattle.outcome.proofs.Sizes.{short-text}
 use Rattle.verify.specs.Verifying.{tokenJudged, bytesJudged, decodedJudged, textJudged, requestJudged, verifyOf}
 use Rattle.verify.proofs.Decoding.{too-long as long-is}
-use Rattle.bhinorpa.specs.Allowed.{TableOf, RequestOf, Canonical, firstFailing, checksOf}
+use Rattle.bhinorpa.specs.Allowed.{EncodesTable, EncodesRequest, Canonical, failingFirst, checksOf}
 use Rattle.bhinorpa.specs.Verdicts.{TextDefect, NoRequest}
 use Rattle.bhinorpa.proofs.Judged.{token-law}
 use Rattle.bhinorpa.proofs.Texts.{bytes-few, Unread, unread-long, unread-fault, unread-bytes, defect-unread}
 
 module _ (rows : List Row) (gr : GoodTable rows) (body : List ℕ) (asked : Request) (q : RequestAt) (h : Holds body asked q) (text : List ℕ) where
-  canonical-is : (token : Token) → Canonical text token → textJudged (encodeTable rows) text body q ≡ firstFailing (checksOf rows asked token)
+  canonical-is : (token : Token) → Canonical text token → textJudged (encodeTable rows) text body q ≡ failingFirst (checksOf rows asked token)
   unfolding textJudged decodedOf decodedJudged
   canonical-is token c =
       let b = encodeToken token in
@@ -46,7 +46,7 @@ module _ (rows : List Row) (gr : GoodTable rows) (body : List ℕ) (asked : Requ
   unread-is n (unread-bytes l k j at f) = rw (le-ltb 5462 (length text) l, j, le-leb k 4096 (bytes-few text j l), f)
 
 -- with a good table and a good request, the text decides
-module _ (table request : List ℕ) (rows : List Row) (t : TableOf table rows) (asked : Request) (r : RequestOf request asked) (text : List ℕ) where
+module _ (table request : List ℕ) (rows : List Row) (t : EncodesTable table rows) (asked : Request) (r : EncodesRequest request asked) (text : List ℕ) where
   by-text : (n : ℕ) → ((body : List ℕ) (q : RequestAt) → Holds body asked q → textJudged (encodeTable rows) text body q ≡ n) → verifyOf table request text ≡ n
   unfolding verifyOf requestJudged
   by-text n k =
@@ -57,8 +57,8 @@ module _ (table request : List ℕ) (rows : List Row) (t : TableOf table rows) (
   pub verify-defect : (n : ℕ) → TextDefect text n → verifyOf table request text ≡ n
   verify-defect n d = by-text n (λ body q h. unread-is rows (t .good) body asked q h text n (defect-unread text n d))
 
-  pub verify-token : (token : Token) → Canonical text token → verifyOf table request text ≡ firstFailing (checksOf rows asked token)
-  verify-token token c = by-text (firstFailing (checksOf rows asked token)) (λ body q h. canonical-is rows (t .good) body asked q h text token c)
+  pub verify-token : (token : Token) → Canonical text token → verifyOf table request text ≡ failingFirst (checksOf rows asked token)
+  verify-token token c = by-text (failingFirst (checksOf rows asked token)) (λ body q h. canonical-is rows (t .good) body asked q h text token c)
 
 module _ (table request text : List ℕ) where
   pub verify-no-table : tableOk table ≡ false → verifyOf table request text ≡ 1
@@ -72,7 +72,7 @@ module _ (table request text : List ℕ) where
 -- a request's bytes are those of one good request exactly where the reading takes them
 pub data RequestIs (request : List ℕ) : Type 0 where
   no-request : NoRequest request → requestOf request ≡ Bad → RequestIs request
-  one-request : (asked : Request) → RequestOf request asked → RequestIs request
+  one-request : (asked : Request) → EncodesRequest request asked → RequestIs request
 
 pub request-is : (request : List ℕ) → IsBytes request → RequestIs request
 request-is request b = by (requestOf request) refl

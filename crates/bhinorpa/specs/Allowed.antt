@@ -1,5 +1,5 @@
--- What allowed means, on trees. Demand 2: a token is allowed exactly when it is canonical, its key is known, the BLAKE3 chain gives its
--- tag, and tenant, scope and every caveat hold; otherwise the first failing check is named.
+-- Meaning. What allowed means, on trees. Demand 2: a token is allowed exactly when it is canonical, its key is known, the BLAKE3 chain
+-- gives its tag, and tenant, scope and every caveat hold; otherwise the first failing check is named.
 use mathlib.Core.Path.{_≡_}
 use mathlib.Core.Bool.{Bool, true}
 use mathlib.Core.List.{List, [], _∷_}
@@ -8,6 +8,7 @@ use lib.Dec.{leb}
 use lib.ListN.{length}
 use Rattle.basis.specs.Basis.{pick, IsBytes}
 use Rattle.basis.specs.Same.{sameOf}
+use Rattle.basis.specs.Limits.{tokenMost}
 use Rattle.answers.specs.Answers.{numberOf}
 use Rattle.answers.specs.declared.Answer.{Answer}
 use Rattle.answers.specs.declared.Answer.the-variants.{Allow, KidUnknown, MacMismatch, TenantMismatch, CaveatMethod, CaveatPath, CaveatBytes}
@@ -22,11 +23,11 @@ use Rattle.rules.specs.Holding.{memberOf, ifThere, failing, caveatHolds}
 use Rattle.rules_compare.specs.Fitting.{fitsOf}
 
 -- the rows that a table's bytes are, and what a request's body asks
-pub record TableOf (table : List ℕ) (rows : List Row) : Type 0 where
+pub record EncodesTable (table : List ℕ) (rows : List Row) : Type 0 where
   pub good : GoodTable rows
   pub written : table ≡ encodeTable rows
 
-pub record RequestOf (request : List ℕ) (asked : Request) : Type 0 where
+pub record EncodesRequest (request : List ℕ) (asked : Request) : Type 0 where
   pub good : GoodRequest asked
   pub written : request ≡ encodeRequest asked
 
@@ -37,7 +38,7 @@ tokenText token = base64url (encodeToken token)
 pub record Canonical (text : List ℕ) (token : Token) : Type 0 where
   pub good : GoodToken token
   pub are-bytes : IsBytes (encodeToken token)
-  pub short : length (encodeToken token) ≤ 4096
+  pub short : length (encodeToken token) ≤ tokenMost
   pub written : text ≡ tokenText token
 
 unfoldable pub caveatBytes : List Caveat → List (List ℕ)
@@ -70,9 +71,9 @@ pub record Check : Type 0 where
 abbrev pub check : Answer → Bool → Check
 check answer holds = record { answer = answer; holds = holds }
 
-unfoldable pub firstFailing : List Check → ℕ
-firstFailing [] = numberOf Allow
-firstFailing (first ∷ rest) = pick (first .holds) (firstFailing rest) (numberOf (first .answer))
+unfoldable pub failingFirst : List Check → ℕ
+failingFirst [] = numberOf Allow
+failingFirst (first ∷ rest) = pick (first .holds) (failingFirst rest) (numberOf (first .answer))
 
 -- "caveats in token order"
 unfoldable pub caveatChecks : Request → List ℕ → List Caveat → List Check

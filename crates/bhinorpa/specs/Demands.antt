@@ -1,6 +1,7 @@
--- The statements that the product is judged by, in the order of the demands: each a type, whose theorem (the same name in small letters)
--- stands under proofs/. `verifyOf`, `issueOf`, `narrowOf` and `Carried` are what the exported functions' contracts say (src/lib.rt); that
--- each takes any bytes, touches only what it was lent and ends is those contracts, none of which asks anything of its caller.
+-- Meaning. The statements that the product is judged by, in the order of the demands: each a type, whose theorem (the same name in small
+-- letters) stands under proofs/. `verifyOf`, `issueOf`, `narrowOf` and `Carried` are what the exported functions' contracts say
+-- (src/lib.rt); that each takes any bytes, touches only what it was lent and ends is those contracts, none of which asks anything of its
+-- caller.
 use mathlib.Core.Path.{_≡_}
 use mathlib.Core.Bool.{true, false}
 use mathlib.Core.List.{List, _∷_}
@@ -26,8 +27,8 @@ use Rattle.outcome.specs.Decisions.{Decision, Carried}
 use Rattle.outcome.specs.declared.Outcome.{Outcome}
 use Rattle.issue.specs.Issuing.{issueOf}
 use Rattle.narrow.specs.Narrowing.{narrowOf}
-use Rattle.bhinorpa.specs.Allowed.{TableOf, RequestOf, tokenText, Canonical, caveatBytes, Allowed}
-use Rattle.bhinorpa.specs.NewTokens.{CaveatOf, Grant, Parent, freshToken, childToken, Issued, Narrowed, NarrowsExactly, Call, leftBy, Narrowings, lastOf, AllDone}
+use Rattle.bhinorpa.specs.Allowed.{EncodesTable, EncodesRequest, tokenText, Canonical, caveatBytes, Allowed}
+use Rattle.bhinorpa.specs.NewTokens.{EncodesCaveat, Grant, Parent, freshToken, childToken, Issued, Narrowed, NarrowsExactly, Call, leftBy, Narrowings, lastCall, AllDone}
 use Rattle.bhinorpa.specs.Verdicts.{TextDefect, Verdict, IssueVerdict, NarrowVerdict, oneOf, verifyAnswers, issueAnswers, narrowAnswers}
 
 -- DEMAND 1: "Any bytes may arrive at any entry point. Each judges them itself, ends, and answers from one numbered list in a stated order."
@@ -58,7 +59,7 @@ RefusalWritesNothing =
 -- caveat hold"
 abbrev pub AllowedExactly : Type 0
 AllowedExactly =
-    (table request text : List ℕ) (rows : List Row) → TableOf table rows → (asked : Request) → RequestOf request asked
+    (table request text : List ℕ) (rows : List Row) → EncodesTable table rows → (asked : Request) → EncodesRequest request asked
     → (verifyOf table request text ≡ numberOf Allow → Allowed rows asked text) × (Allowed rows asked text → verifyOf table request text ≡ numberOf Allow)
 
 -- "otherwise the first failing check is named": verify's number is that of a verdict, and a verdict has one number
@@ -125,7 +126,7 @@ Rebuilt =
     (table text : List ℕ) (rows : List Row) (token : Token) → Parent table text rows token
     → (first : Call) → 5462 ≤ length (first .entry) → Carried (issueOf table (token .tid) (token .kid) (encodeScope (token .scope))) (first .entry) (first .outcome) (first .exit)
     → (calls : List Call) → Narrowings table (leftBy first) (caveatBytes (token .caveats)) calls
-    → AllDone (first ∷ calls) × (leftBy (lastOf first calls) ≡ text)
+    → AllDone (first ∷ calls) × (leftBy (lastCall first calls) ≡ text)
 
 -- a room of 5,462 bytes takes every token's text
 abbrev pub RoomEnough : Type 0
@@ -141,7 +142,7 @@ NarrowingExact =
 -- child of over 4,096 bytes; else 36 exactly for a room shorter than the child's text; else 0
 abbrev pub NarrowingRefusals : Type 0
 NarrowingRefusals =
-    (table text bytes : List ℕ) (rows : List Row) (token : Token) → Parent table text rows token → (added : Caveat) → CaveatOf bytes added
+    (table text bytes : List ℕ) (rows : List Row) (token : Token) → Parent table text rows token → (added : Caveat) → EncodesCaveat bytes added
     → (entry : List ℕ) (outcome : Outcome) (exit : List ℕ) → Carried (narrowOf table text bytes) entry outcome exit
     → outcome .answer
     ≡ pick (eqb (length (token .caveats)) 64) (numberOf CavFull)

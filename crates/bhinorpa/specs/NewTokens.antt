@@ -1,5 +1,5 @@
--- What issue and narrow hand out, on trees. Demand 2: issue and narrow write exactly the canonical form, and every readable, rightly
--- tagged text is what issuing and narrowing in order would have written.
+-- Meaning. What issue and narrow hand out, on trees. Demand 2: issue and narrow write exactly the canonical form, and every readable,
+-- rightly tagged text is what issuing and narrowing in order would have written.
 use mathlib.Core.Path.{_≡_}
 use mathlib.Core.Bool.{true}
 use mathlib.Core.List.{List, [], _∷_, _++_}
@@ -18,26 +18,26 @@ use Rattle.verify.specs.Verifying.{verifyOf}
 use Rattle.outcome.specs.Decisions.{Carried}
 use Rattle.narrow.specs.Narrowing.{narrowOf}
 use Rattle.outcome.specs.declared.Outcome.{Outcome}
-use Rattle.bhinorpa.specs.Allowed.{TableOf, RequestOf, Canonical, Allowed, chainTag, keyFor}
+use Rattle.bhinorpa.specs.Allowed.{EncodesTable, EncodesRequest, Canonical, Allowed, chainTag, keyFor}
 
 -- the scope, and the caveat, that bytes are
-pub record ScopeOf (bytes : List ℕ) (scope : Scope) : Type 0 where
+pub record EncodesScope (bytes : List ℕ) (scope : Scope) : Type 0 where
   pub good : GoodScope scope
   pub written : bytes ≡ encodeScope scope
 
-pub record CaveatOf (bytes : List ℕ) (caveat : Caveat) : Type 0 where
+pub record EncodesCaveat (bytes : List ℕ) (caveat : Caveat) : Type 0 where
   pub good : GoodCaveat caveat
   pub written : bytes ≡ encodeCaveat caveat
 
 -- what issue is given, all good: a table, a scope, and ids that have a row
 pub record Grant (table tid kid bytes : List ℕ) (rows : List Row) (scope : Scope) : Type 0 where
-  pub table-is : TableOf table rows
-  pub scope-is : ScopeOf bytes scope
+  pub table-is : EncodesTable table rows
+  pub scope-is : EncodesScope bytes scope
   pub known : hasRow rows tid kid ≡ true
 
 -- a good parent: readable, its key known, rightly tagged
 pub record Parent (table text : List ℕ) (rows : List Row) (token : Token) : Type 0 where
-  pub table-is : TableOf table rows
+  pub table-is : EncodesTable table rows
   pub canonical : Canonical text token
   pub known : hasRow rows (token .tid) (token .kid) ≡ true
   pub tagged : chainTag (keyFor rows token) token ≡ token .tag
@@ -81,7 +81,7 @@ pub record Narrowed (table text bytes : List ℕ) (entry : List ℕ) (outcome : 
   pub token : Token
   pub parent : Parent table text rows token
   pub added : Caveat
-  pub caveat-is : CaveatOf bytes added
+  pub caveat-is : EncodesCaveat bytes added
   pub tagged : chainTag (keyFor rows token) (childToken rows token added) ≡ childToken rows token added .tag
   pub wrote : Wrote (childToken rows token added) entry outcome exit
 
@@ -91,11 +91,11 @@ pub record NarrowsExactly (table text bytes child : List ℕ) : Type 0 where
   pub token : Token
   pub parent : Parent table text rows token
   pub added : Caveat
-  pub caveat-is : CaveatOf bytes added
+  pub caveat-is : EncodesCaveat bytes added
   pub exactly : (asked : Request)
       → (Allowed rows asked child → Allowed rows asked text × (caveatHolds asked (token .tid) added ≡ true))
       × (Allowed rows asked text × (caveatHolds asked (token .tid) added ≡ true) → Allowed rows asked child)
-  pub by-verify : (request : List ℕ) (asked : Request) → RequestOf request asked
+  pub by-verify : (request : List ℕ) (asked : Request) → EncodesRequest request asked
       → (verifyOf table request child ≡ 0 → (verifyOf table request text ≡ 0) × (caveatHolds asked (token .tid) added ≡ true))
       × ((verifyOf table request text ≡ 0) × (caveatHolds asked (token .tid) added ≡ true) → verifyOf table request child ≡ 0)
 
@@ -118,9 +118,9 @@ Narrowings table text (bytes ∷ rest) (call ∷ calls) =
     (5462 ≤ length (call .entry)) × Carried (narrowOf table text bytes) (call .entry) (call .outcome) (call .exit) × Narrowings table (leftBy call) rest calls
 
 -- the last call of all
-unfoldable pub lastOf : Call → List Call → Call
-lastOf first [] = first
-lastOf first (call ∷ calls) = lastOf call calls
+unfoldable pub lastCall : Call → List Call → Call
+lastCall first [] = first
+lastCall first (call ∷ calls) = lastCall call calls
 
 unfoldable pub AllDone : List Call → Type 0
 AllDone [] = Unit {0}

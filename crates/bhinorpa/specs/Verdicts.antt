@@ -1,5 +1,5 @@
--- Which check each entry point names, in document 01's order ("Numbers and names"). Each case says that all checks before it held; of
--- issue and narrow it also says what was returned and what the room holds.
+-- Meaning. Which check each entry point names, in document 01's order ("Numbers and names"). Each case says that all checks before it held;
+-- of issue and narrow it also says what was returned and what the room holds.
 use mathlib.Core.Path.{_≡_}
 use mathlib.Core.Bool.{Bool, true, false}
 use mathlib.Core.List.{List, [], _∷_, _++_}
@@ -7,6 +7,7 @@ use Prim.Native.Nat.{ℕ, _+_, _≤_, _<_}
 use lib.Dec.{eqb}
 use lib.ListN.{length}
 use Rattle.basis.specs.Basis.{pick, over, IsBytes}
+use Rattle.basis.specs.Limits.{textMost, tokenMost, caveatsMost}
 use Rattle.answers.specs.Answers.{numberOf}
 use Rattle.answers.specs.declared.Answer.{Answer}
 use Rattle.answers.specs.declared.Answer.the-variants.{Allow, TableBad, CtxBad, ParseB64, ParseCbor, ParseBounds, SchemaUnknownField, KidUnknown, MacMismatch, TenantMismatch}
@@ -25,23 +26,23 @@ use Rattle.token.specs.declared.TokenParts.the-variants.{Bad as NoToken}
 use Rattle.records_table.specs.Tables.{Row, hasRow}
 use Rattle.records_request.specs.Requests.{Request}
 use Rattle.outcome.specs.declared.Outcome.{Outcome}
-use Rattle.bhinorpa.specs.Allowed.{TableOf, RequestOf, tokenText, Canonical, chainTag, keyFor, firstFailing, checksOf}
-use Rattle.bhinorpa.specs.NewTokens.{ScopeOf, CaveatOf, Grant, Parent, freshToken, childToken}
+use Rattle.bhinorpa.specs.Allowed.{EncodesTable, EncodesRequest, tokenText, Canonical, chainTag, keyFor, failingFirst, checksOf}
+use Rattle.bhinorpa.specs.NewTokens.{EncodesScope, EncodesCaveat, Grant, Parent, freshToken, childToken}
 
 abbrev pub NoTable : List ℕ → Type 0
-NoTable table = (rows : List Row) → TableOf table rows → ⊥
+NoTable table = (rows : List Row) → EncodesTable table rows → ⊥
 
 abbrev pub NoRequest : List ℕ → Type 0
-NoRequest request = (asked : Request) → RequestOf request asked → ⊥
+NoRequest request = (asked : Request) → EncodesRequest request asked → ⊥
 
 -- the first defect of a text that is no token's
 pub data TextDefect (text : List ℕ) (n : ℕ) : Type 0 where
   -- "text over 5,462 characters (5)"
-  too-long : 5462 < length text → n ≡ numberOf ParseBounds → TextDefect text n
+  too-long : textMost < length text → n ≡ numberOf ParseBounds → TextDefect text n
   -- 3: no bytes have this text
-  no-base64 : length text ≤ 5462 → ((bytes : List ℕ) → IsBytes bytes → text ≡ base64url bytes → ⊥) → n ≡ numberOf ParseB64 → TextDefect text n
+  no-base64 : length text ≤ textMost → ((bytes : List ℕ) → IsBytes bytes → text ≡ base64url bytes → ⊥) → n ≡ numberOf ParseB64 → TextDefect text n
   -- "reading (4 to 6)": the first defect of the bytes that have this text
-  unreadable : length text ≤ 5462 → (bytes : List ℕ) → IsBytes bytes → text ≡ base64url bytes → (at : ℕ) → tokenOf bytes ≡ NoToken n at → TextDefect text n
+  unreadable : length text ≤ textMost → (bytes : List ℕ) → IsBytes bytes → text ≡ base64url bytes → (at : ℕ) → tokenOf bytes ≡ NoToken n at → TextDefect text n
 
 -- the first defect of bytes that are not one scope, or not one caveat: of its reading, or that bytes are left over (4)
 pub data ScopeDefect (bytes : List ℕ) (n : ℕ) : Type 0 where
@@ -55,12 +56,12 @@ pub data CaveatDefect (bytes : List ℕ) (n : ℕ) : Type 0 where
 -- "Verify: 1, 2, text over 5,462 characters (5), 3, reading (4 to 6), 7, 8, 9, scope method, path, bytes (10 to 12), caveats in token order."
 pub data Verdict (table request text : List ℕ) (n : ℕ) : Type 0 where
   table-bad : NoTable table → n ≡ numberOf TableBad → Verdict table request text n
-  ctx-bad : (rows : List Row) → TableOf table rows → NoRequest request → n ≡ numberOf CtxBad → Verdict table request text n
+  ctx-bad : (rows : List Row) → EncodesTable table rows → NoRequest request → n ≡ numberOf CtxBad → Verdict table request text n
   -- 5, 3, 4 to 6
-  no-token : (rows : List Row) → TableOf table rows → (asked : Request) → RequestOf request asked → TextDefect text n → Verdict table request text n
+  no-token : (rows : List Row) → EncodesTable table rows → (asked : Request) → EncodesRequest request asked → TextDefect text n → Verdict table request text n
   -- 7 to 21, or 0
-  judged : (rows : List Row) → TableOf table rows → (asked : Request) → RequestOf request asked → (token : Token) → Canonical text token
-      → n ≡ firstFailing (checksOf rows asked token) → Verdict table request text n
+  judged : (rows : List Row) → EncodesTable table rows → (asked : Request) → EncodesRequest request asked → (token : Token) → Canonical text token
+      → n ≡ failingFirst (checksOf rows asked token) → Verdict table request text n
 
 -- "Every refusal by these three returns 0 bytes and writes nothing."
 pub record Refuses (n : ℕ) (entry : List ℕ) (outcome : Outcome) (exit : List ℕ) : Type 0 where
@@ -82,8 +83,8 @@ pub data RoomVerdict (text entry : List ℕ) (outcome : Outcome) (exit : List �
 -- "Issue: 1, the scope's reading (4 to 6), 7 (also for a tid or kid of wrong form), 36."
 pub data IssueVerdict (table tid kid bytes entry : List ℕ) (outcome : Outcome) (exit : List ℕ) : Type 0 where
   issue-table-bad : NoTable table → Refuses (numberOf TableBad) entry outcome exit → IssueVerdict table tid kid bytes entry outcome exit
-  issue-scope-bad : (rows : List Row) → TableOf table rows → (n : ℕ) → ScopeDefect bytes n → Refuses n entry outcome exit → IssueVerdict table tid kid bytes entry outcome exit
-  issue-kid-unknown : (rows : List Row) → TableOf table rows → (scope : Scope) → ScopeOf bytes scope → hasRow rows tid kid ≡ false
+  issue-scope-bad : (rows : List Row) → EncodesTable table rows → (n : ℕ) → ScopeDefect bytes n → Refuses n entry outcome exit → IssueVerdict table tid kid bytes entry outcome exit
+  issue-kid-unknown : (rows : List Row) → EncodesTable table rows → (scope : Scope) → EncodesScope bytes scope → hasRow rows tid kid ≡ false
       → Refuses (numberOf KidUnknown) entry outcome exit → IssueVerdict table tid kid bytes entry outcome exit
   issue-grants : (rows : List Row) (scope : Scope) → Grant table tid kid bytes rows scope → RoomVerdict (tokenText (freshToken rows scope tid kid)) entry outcome exit
       → IssueVerdict table tid kid bytes entry outcome exit
@@ -91,19 +92,19 @@ pub data IssueVerdict (table tid kid bytes entry : List ℕ) (outcome : Outcome)
 -- "Narrow: 1, text length, 3, reading, 7, 8, the caveat's reading as 31, 32, 33 for 4, 5, 6, then 34, 35, 36."
 pub data NarrowVerdict (table text bytes entry : List ℕ) (outcome : Outcome) (exit : List ℕ) : Type 0 where
   narrow-table-bad : NoTable table → Refuses (numberOf TableBad) entry outcome exit → NarrowVerdict table text bytes entry outcome exit
-  narrow-no-token : (rows : List Row) → TableOf table rows → (n : ℕ) → TextDefect text n → Refuses n entry outcome exit → NarrowVerdict table text bytes entry outcome exit
-  narrow-kid-unknown : (rows : List Row) → TableOf table rows → (token : Token) → Canonical text token → hasRow rows (token .tid) (token .kid) ≡ false
+  narrow-no-token : (rows : List Row) → EncodesTable table rows → (n : ℕ) → TextDefect text n → Refuses n entry outcome exit → NarrowVerdict table text bytes entry outcome exit
+  narrow-kid-unknown : (rows : List Row) → EncodesTable table rows → (token : Token) → Canonical text token → hasRow rows (token .tid) (token .kid) ≡ false
       → Refuses (numberOf KidUnknown) entry outcome exit → NarrowVerdict table text bytes entry outcome exit
-  narrow-mac : (rows : List Row) → TableOf table rows → (token : Token) → Canonical text token → hasRow rows (token .tid) (token .kid) ≡ true
+  narrow-mac : (rows : List Row) → EncodesTable table rows → (token : Token) → Canonical text token → hasRow rows (token .tid) (token .kid) ≡ true
       → (chainTag (keyFor rows token) token ≡ token .tag → ⊥) → Refuses (numberOf MacMismatch) entry outcome exit → NarrowVerdict table text bytes entry outcome exit
   narrow-caveat-bad : (rows : List Row) (token : Token) → Parent table text rows token → (n : ℕ) → CaveatDefect bytes n → Refuses (n + 27) entry outcome exit
       → NarrowVerdict table text bytes entry outcome exit
-  narrow-full : (rows : List Row) (token : Token) → Parent table text rows token → (added : Caveat) → CaveatOf bytes added → length (token .caveats) ≡ 64
+  narrow-full : (rows : List Row) (token : Token) → Parent table text rows token → (added : Caveat) → EncodesCaveat bytes added → length (token .caveats) ≡ caveatsMost
       → Refuses (numberOf CavFull) entry outcome exit → NarrowVerdict table text bytes entry outcome exit
-  narrow-size-full : (rows : List Row) (token : Token) → Parent table text rows token → (added : Caveat) → CaveatOf bytes added → length (token .caveats) < 64
-      → 4096 < length (encodeToken (childToken rows token added)) → Refuses (numberOf SizeFull) entry outcome exit → NarrowVerdict table text bytes entry outcome exit
-  narrow-child : (rows : List Row) (token : Token) → Parent table text rows token → (added : Caveat) → CaveatOf bytes added → length (token .caveats) < 64
-      → length (encodeToken (childToken rows token added)) ≤ 4096 → RoomVerdict (tokenText (childToken rows token added)) entry outcome exit
+  narrow-size-full : (rows : List Row) (token : Token) → Parent table text rows token → (added : Caveat) → EncodesCaveat bytes added → length (token .caveats) < caveatsMost
+      → tokenMost < length (encodeToken (childToken rows token added)) → Refuses (numberOf SizeFull) entry outcome exit → NarrowVerdict table text bytes entry outcome exit
+  narrow-child : (rows : List Row) (token : Token) → Parent table text rows token → (added : Caveat) → EncodesCaveat bytes added → length (token .caveats) < caveatsMost
+      → length (encodeToken (childToken rows token added)) ≤ tokenMost → RoomVerdict (tokenText (childToken rows token added)) entry outcome exit
       → NarrowVerdict table text bytes entry outcome exit
 
 -- the closed list of each entry point's answers

@@ -7,7 +7,7 @@ use borrow.Author.Tests.{eq-eqb, ne-eqb}
 use lib.ListN.{length, length-append}
 use Rattle.basis.specs.Basis.{fromTo, between, IsBytes}
 use Rattle.basis.specs.declared.Span.{Span}
-use Rattle.records.specs.Records.{readRecord}
+use Rattle.records.specs.Reading.{readRecord}
 use Rattle.records.specs.declared.RecordAt.{RecordAt}
 use Rattle.records.specs.declared.RecordParts.the-variants.{Of, Bad}
 use Rattle.records.proofs.Fields.{IsRecord, record-read}

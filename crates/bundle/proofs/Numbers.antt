@@ -16,21 +16,21 @@ use Rattle.answers.proofs.Distinct.{listed-number}
 use Rattle.answers.proofs.Named.{name-long}
 use Rattle.verify.specs.Verifying.{verifyOf}
 use Rattle.verify.proofs.Numbers.{verify-low}
-use Rattle.bundle.specs.Lines.{nameIn, wordsOf}
+use Rattle.bundle.specs.Lines.{nameIn, lineWords}
 
 -- an answer has this number, and the words for the number are that answer's
 pub record Named (n : ℕ) : Type 0 where
   pub answer : Answer
   pub listed : answerOf n ≡ Of answer
   pub numbered : numberOf answer ≡ n
-  pub words : wordsOf n ≡ pick (eqb n 0) (ascii "allow") (ascii "deny " ++ nameOf answer)
+  pub words : lineWords n ≡ pick (eqb n 0) (ascii "allow") (ascii "deny " ++ nameOf answer)
 
 isOf : Listed → Bool
 isOf (Of a) = true
 isOf Free = false
 
 named-by : (n : ℕ) → isOf (answerOf n) ≡ true → Named n
-unfolding wordsOf isOf
+unfolding lineWords isOf
 named-by n = by (answerOf n) refl
   where
     by : (x : Listed) → answerOf n ≡ x → isOf x ≡ true → Named n

@@ -16,7 +16,7 @@ use Rattle.answers.specs.declared.Listed.the-variants.{Of, Free}
 use Rattle.answers.proofs.Named.{told-row}
 use Rattle.cbor_writing.specs.Placing.{Placed}
 use Rattle.cbor_writing.proofs.Writers.{put-placed}
-use Rattle.bundle.specs.Lines.{nameIn, wordsOf, line}
+use Rattle.bundle.specs.Lines.{nameIn, lineWords, line}
 
 name-short : (a : Answer) → length (nameOf a) ≤ 21
 name-short a = let r = told-row a refl refl in rw (r .long) at (r .short)
@@ -25,22 +25,22 @@ listed-short : (x : Listed) → length (nameIn x) ≤ 21
 listed-short (Of a) = name-short a
 listed-short Free = omega arith
 
-words-short : (n : ℕ) → length (wordsOf n) ≤ 26
-unfolding wordsOf
+words-short : (n : ℕ) → length (lineWords n) ≤ 26
+unfolding lineWords
 words-short n =
     either (λ (x : List ℕ). length x ≤ 26) (eqb n 0) (omega arith)
     (rw (length-append (ascii "deny ") (nameIn (answerOf n))) (omega (arith, listed-short (answerOf n))))
 
 pub line-short : (n : ℕ) → length (line n) ≤ 27
 unfolding line
-line-short n = omega (arith, length-append (wordsOf n) (10 ∷ []), words-short n)
+line-short n = omega (arith, length-append (lineWords n) (10 ∷ []), words-short n)
 
-pub allows : (n : ℕ) → n ≡ 0 → wordsOf n ≡ ascii "allow"
-unfolding wordsOf
+pub allows : (n : ℕ) → n ≡ 0 → lineWords n ≡ ascii "allow"
+unfolding lineWords
 allows n e = rw (eq-eqb n 0 e)
 
-pub denies : (n : ℕ) → (n ≡ 0 → ⊥) → wordsOf n ≡ ascii "deny " ++ nameIn (answerOf n)
-unfolding wordsOf
+pub denies : (n : ℕ) → (n ≡ 0 → ⊥) → lineWords n ≡ ascii "deny " ++ nameIn (answerOf n)
+unfolding lineWords
 denies n h = rw (ne-eqb n 0 h)
 
 -- what the number was told as, and the name on the line

@@ -6,7 +6,7 @@ use lib.Dec.{eqb, ltb}
 use lib.ListN.{length, length-append}
 use Rattle.basis.specs.Basis.{between}
 use Rattle.basis.proofs.Picks.{either}
-use Rattle.records.specs.Records.{afterRecord, readRecord}
+use Rattle.records.specs.Reading.{afterRecord, readRecord}
 use Rattle.records.specs.declared.RecordParts.{RecordParts}
 use Rattle.records.specs.declared.RecordParts.the-variants.{Of, Bad}
 use Rattle.verify.specs.Verifying.{verifyOf}

@@ -1,15 +1,16 @@
--- A bundle judged, line by line. Document 01, "House records": "Bundle on standard input, up to 65,536 bytes: kind 16 a table, 32 a
--- request, 48 a token. .. One line per token, "allow" or "deny " and the name. Every line ends with byte 0x0a."
+-- Meaning. A bundle judged, line by line. Document 01, "House records": "Bundle on standard input, up to 65,536 bytes: kind 16 a table, 32
+-- a request, 48 a token. .. One line per token, "allow" or "deny " and the name. Every line ends with byte 0x0a."
 use mathlib.Core.Path.{_≡_}
 use mathlib.Core.List.{List, [], _∷_, _++_}
 use Prim.Native.Nat.{ℕ, zero, suc}
 use lib.Dec.{eqb, leb, ltb}
 use lib.ListN.{length}
 use Rattle.basis.specs.Basis.{pick, ascii, between, over}
+use Rattle.basis.specs.Limits.{tableKind, requestKind, tokenKind, bundleMost}
 use Rattle.answers.specs.Answers.{nameOf, answerOf}
 use Rattle.answers.specs.declared.Listed.{Listed}
 use Rattle.answers.specs.declared.Listed.the-variants.{Of, Free}
-use Rattle.records.specs.Records.{afterRecord, readRecord}
+use Rattle.records.specs.Reading.{afterRecord, readRecord}
 use Rattle.records.specs.declared.RecordAt.{RecordAt}
 use Rattle.verify.specs.Verifying.{verifyOf}
 
@@ -19,11 +20,11 @@ abbrev pub nameIn : Listed → List ℕ
 nameIn (Of a) = nameOf a
 nameIn Free = ascii "?"
 
-unfoldable pub wordsOf : ℕ → List ℕ
-wordsOf n = pick (eqb n 0) (ascii "allow") (ascii "deny " ++ nameIn (answerOf n))
+unfoldable pub lineWords : ℕ → List ℕ
+lineWords n = pick (eqb n 0) (ascii "allow") (ascii "deny " ++ nameIn (answerOf n))
 
 unfoldable pub line : ℕ → List ℕ
-line n = wordsOf n ++ (0x0a ∷ [])
+line n = lineWords n ++ (0x0a ∷ [])
 
 abbrev pub badLine : List ℕ
 badLine = ascii "bundle.bad" ++ (0x0a ∷ [])
@@ -31,9 +32,9 @@ badLine = ascii "bundle.bad" ++ (0x0a ∷ [])
 -- "Later tables and requests replace earlier ones. .. At a cut record or other kind: "bundle.bad" and stop"; `rest` goes on behind the record
 unfoldable pub kindThen : (List ℕ → List ℕ → ℕ → List ℕ) → List ℕ → List ℕ → List ℕ → RecordAt → List ℕ
 kindThen rest s table request found =
-    pick (eqb (found .kind) 16) (rest (between s (found .body)) request (found .body .to))
-    (pick (eqb (found .kind) 32) (rest table (between s (found .body)) (found .body .to))
-    (pick (eqb (found .kind) 48) (line (verifyOf table request (between s (found .body))) ++ rest table request (found .body .to)) badLine))
+    pick (eqb (found .kind) tableKind) (rest (between s (found .body)) request (found .body .to))
+    (pick (eqb (found .kind) requestKind) (rest table (between s (found .body)) (found .body .to))
+    (pick (eqb (found .kind) tokenKind) (line (verifyOf table request (between s (found .body))) ++ rest table request (found .body .to)) badLine))
 
 -- so many records at most from a place on, under this table and this request
 unfoldable pub linesFrom : ℕ → List ℕ → List ℕ → List ℕ → ℕ → List ℕ
@@ -43,7 +44,7 @@ linesFrom (suc k) s table request at = pick (eqb at (length s)) [] (afterRecord 
 -- "Before any, the table is empty and the request counts as malformed": so does an empty one. A record has at least four bytes, so that
 -- 65,536 bytes hold 16,384 at most. "a longer input gives that line only"
 unfoldable pub linesOf : List ℕ → List ℕ
-linesOf input = pick (ltb 65536 (length input)) badLine (linesFrom 16384 input [] [] 0)
+linesOf input = pick (ltb bundleMost (length input)) badLine (linesFrom 16384 input [] [] 0)
 
 -- 16,384 lines of at most 27 bytes, "deny caveat.custom.unknown" and the byte 0x0a
 abbrev pub enough : ℕ

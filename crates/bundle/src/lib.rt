@@ -2,6 +2,7 @@
 // are kept as places in the input; each line is written behind the last.
 use answers::Listed;
 use basis::Span;
+use basis::limits;
 use records::RecordParts;
 ghost use mathlib.Core.Path.{_≡_};
 ghost use mathlib.Core.List.{[]};
@@ -9,7 +10,7 @@ ghost use Prim.Native.Nat.{_+_, _≤_};
 ghost use lib.ListN.{length};
 ghost use Rattle.answers.specs.Answers.{answerOf};
 ghost use Rattle.cbor_writing.specs.Placing.{Placed};
-ghost use Rattle.bundle.specs.Lines.{nameIn, wordsOf, line, linesFrom, Judged};
+ghost use Rattle.bundle.specs.Lines.{nameIn, lineWords, line, linesFrom, Judged};
 
 // The answer's name; for a number that no answer has "?", which verify never gives.
 fn put_name(room: &mut [u8], at: usize, n: u32) -> usize
@@ -27,8 +28,8 @@ fn put_name(room: &mut [u8], at: usize, n: u32) -> usize
 
 // "allow", or "deny " and the name.
 fn put_words(room: &mut [u8], at: usize, n: u32) -> usize
-    requires { ⌜ at + length (wordsOf n) ≤ length (now room) ⌝ }
-    ensures { λ r. ⌜ Placed (wordsOf n) (now (room .entry)) at r (now (room .exit)) ⌝ }
+    requires { ⌜ at + length (lineWords n) ≤ length (now room) ⌝ }
+    ensures { λ r. ⌜ Placed (lineWords n) (now (room .entry)) at r (now (room .exit)) ⌝ }
 {
     if n == 0 {
         return cbor_writing::put_at(room, at, b"allow");
@@ -60,11 +61,11 @@ fn walk(input: &[u8], room: &mut [u8]) -> usize
             RecordParts::Of { record } => {
                 let kind = record.kind;
                 let body = record.body;
-                if kind == 16 {
+                if kind == limits::TABLE_KIND {
                     table = body;
-                } else if kind == 32 {
+                } else if kind == limits::REQUEST_KIND {
                     request = body;
-                } else if kind == 48 {
+                } else if kind == limits::TOKEN_KIND {
                     let answer = verify::verify(
                         basis::lend(input, table),
                         basis::lend(input, request),
@@ -89,7 +90,7 @@ pub fn judge_bundle(input: &[u8], room: &mut [u8]) -> usize
     if room.len() < 442368 {
         return 0;
     }
-    if 65536 < input.len() {
+    if limits::BUNDLE_MOST < input.len() {
         return cbor_writing::put_at(room, 0, b"bundle.bad\n");
     }
     walk(input, room)

@@ -9,7 +9,8 @@ use lib.Dec.{ltb, eqb}
 use lib.ListN.{length, drop}
 use lib.Seq.{drop-drop}
 use Rattle.basis.specs.Basis.{pick, IsBytes}
-use Rattle.cbor_heads.specs.Heads.{head, headAt, readHead}
+use Rattle.cbor_heads.specs.Heads.{head}
+use Rattle.cbor_heads.specs.Reading.{headAt, readHead}
 use Rattle.cbor_heads.specs.Counts.{countBy, readCount}
 use Rattle.cbor_heads.specs.declared.Head.{Head}
 use Rattle.cbor_heads.specs.declared.Head.the-variants.{Got, Bad as NoHead}

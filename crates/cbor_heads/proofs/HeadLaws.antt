@@ -15,7 +15,8 @@ use lib.Arith.{digits-lt, digits-div, digits-mod}
 use Rattle.cbor_heads.specs.declared.Head.the-variants.{Got, Bad}
 use Rattle.cbor_heads.specs.declared.Width.{Width}
 use Rattle.cbor_heads.specs.declared.Width.the-variants.{Here, Follow, Refused}
-use Rattle.cbor_heads.specs.Heads.{numberOf, numberFrom, big, widthOf, headBy, headAt, head, readHead}
+use Rattle.cbor_heads.specs.Heads.{big, head}
+use Rattle.cbor_heads.specs.Reading.{bigOf, numberFrom, widthOf, headBy, headAt, readHead}
 use Rattle.cbor_heads.proofs.Numbers.{be-snoc}
 
 pub bytes-length : (k n : ℕ) → length (big k n) ≡ k
@@ -24,7 +25,7 @@ bytes-length zero n = refl
 bytes-length (suc k) n = length-append (big k (n / 256)) _ ∙ ap (λ (x : ℕ). x + 1) (bytes-length k (n / 256)) ∙ add-one k
 
 -- the number of the bytes of a number
-pub be-bytes : (k n : ℕ) → n < 256 ^ k → numberOf (big k n) ≡ n
+pub be-bytes : (k n : ℕ) → n < 256 ^ k → bigOf (big k n) ≡ n
 unfolding big numberFrom
 be-bytes zero n h = omega (arith, h)
 be-bytes (suc k) n h =
@@ -41,7 +42,7 @@ pub drop-bytes : (k : ℕ) (s : List ℕ) → IsBytes s → IsBytes (drop k s)
 drop-bytes k s b i = rw getD-drop (b (k + i))
 
 -- the bytes of the number of bytes
-pub bytes-be : (k : ℕ) (s : List ℕ) → length s ≡ k → IsBytes s → (numberOf s < 256 ^ k) × (big k (numberOf s) ≡ s)
+pub bytes-be : (k : ℕ) (s : List ℕ) → length s ≡ k → IsBytes s → (bigOf s < 256 ^ k) × (big k (bigOf s) ≡ s)
 unfolding big numberFrom
 bytes-be zero [] e b = (omega arith, refl)
 bytes-be zero (a ∷ s) e b = let z : ⊥ = omega arith in elim z [ ]
@@ -50,9 +51,9 @@ bytes-be (suc k) s e b =
     let x = getD s k 0 in
     let split : p ++ (x ∷ []) ≡ s = sym (take-suc s k 0 (omega arith)) ∙ take-all (suc k) s (omega arith) in
     let ih = bytes-be k p (length-take-le k s (omega arith)) (bytes-take k s b) in
-    let v : numberOf s ≡ numberOf p * 256 + x = ap numberOf (sym split) ∙ be-snoc 0 p x in (
+    let v : bigOf s ≡ bigOf p * 256 + x = ap bigOf (sym split) ∙ be-snoc 0 p x in (
       rw (v, pow-suc) (digits-lt (ih .0) (b k)),
-      ap₂ (λ (q r : ℕ). big k q ++ (r ∷ [])) (ap (λ (n : ℕ). n / 256) v ∙ digits-div (numberOf p) (b k)) (ap (λ (n : ℕ). n % 256) v ∙ digits-mod (numberOf p) (b k))
+      ap₂ (λ (q r : ℕ). big k q ++ (r ∷ [])) (ap (λ (n : ℕ). n / 256) v ∙ digits-div (bigOf p) (b k)) (ap (λ (n : ℕ). n % 256) v ∙ digits-mod (bigOf p) (b k))
           ∙ ap (λ (q : List ℕ). q ++ (x ∷ [])) (ih .1) ∙ split,
     )
 
@@ -126,7 +127,7 @@ read-written at major n t h = by (size n h)
     by (small l) = rw (small-writes major n l, first at major n t (omega arith), small-width n l)
     by (long {low} {k} {least} f l g) =
         let room : k ≤ length (big k n ++ t) = simp (length-append, bytes-length) (omega arith) in
-        let v : numberOf (take k (big k n ++ t)) ≡ n = ap numberOf (take-at (big k n) t k (bytes-length k n)) ∙ be-bytes k n g in
+        let v : bigOf (take k (big k n ++ t)) ≡ n = ap bigOf (take-at (big k n) t k (bytes-length k n)) ∙ be-bytes k n g in
         rw (form-writes major n f l g, first at major low (big k n ++ t) (form-low f), form-width f, le-ltb _ _ room, v, le-ltb _ _ l, bytes-length)
         (ap (Got major n) (omega arith))
 
@@ -172,18 +173,18 @@ module _ (at b : ℕ) (t : List ℕ) (bs : IsBytes t) {major n next : ℕ} where
       let e : head major n ≡ b ∷ [] = rw (← m, ← v, small-writes (b / 32) (b % 32) l, div-add-mod' b 32) in
       record { front = rw e; past = rw e (sym x); small = omega (arith, l, v) }
 
-  by-follow : {k least : ℕ} → Form (b % 32) k least → (y z : Bool) → ltb (length t) k ≡ y → ltb (numberOf (take k t)) least ≡ z
-      → pick y (Bad at) (pick z (Bad at) (Got (b / 32) (numberOf (take k t)) (at + 1 + k))) ≡ Got major n next → Written at (b ∷ t) major n next
+  by-follow : {k least : ℕ} → Form (b % 32) k least → (y z : Bool) → ltb (length t) k ≡ y → ltb (bigOf (take k t)) least ≡ z
+      → pick y (Bad at) (pick z (Bad at) (Got (b / 32) (bigOf (take k t)) (at + 1 + k))) ≡ Got major n next → Written at (b ∷ t) major n next
   by-follow f true z q r p = let z : _≡_ {A = ℕ} 0 1 = cc in let z : ⊥ = omega arith in elim z [ ]
   by-follow f false true q r p = let z : _≡_ {A = ℕ} 0 1 = cc in let z : ⊥ = omega arith in elim z [ ]
   by-follow {k} f false false q r p =
       let m : b / 32 ≡ major = cc in
-      let v : numberOf (take k t) ≡ n = cc in
+      let v : bigOf (take k t) ≡ n = cc in
       let x : at + 1 + k ≡ next = cc in
       let room : k ≤ length t = ltb-false _ _ q in
       let back = bytes-be k (take k t) (length-take-le k t room) (bytes-take k t bs) in
       let e : head major n ≡ b ∷ take k t =
-      rw (← m, ← v, form-writes (b / 32) (numberOf (take k t)) f (ltb-false _ _ r) (back .0), div-add-mod' b 32, back .1) in
+      rw (← m, ← v, form-writes (b / 32) (bigOf (take k t)) f (ltb-false _ _ r) (back .0), div-add-mod' b 32, back .1) in
       let l : length (head major n) ≡ suc k = ap length e ∙ ap suc (length-take-le k t room) in
       record { front = rw (l, e) (ap (λ (w : List ℕ). b ∷ w) (take-append-drop k t)); past = rw l (omega arith); small = rw (← v) (form-small f (back .0)) }
 
@@ -196,7 +197,7 @@ written-read at (b ∷ t) bs {major} {n} {next} p = by (widthOf (b % 32)) refl p
     by : (w : Width) → widthOf (b % 32) ≡ w → headBy at (b / 32) (b % 32) w t ≡ Got major n next → Written at (b ∷ t) major n next
     by Here e p = by-here at b t (λ i. bs (suc i)) e (here-low (b % 32) e) p
     by Refused e p = let z : _≡_ {A = ℕ} 0 1 = cc in let z : ⊥ = omega arith in elim z [ ]
-    by (Follow k least) e p = by-follow at b t (λ i. bs (suc i)) (form-of (b % 32) e) (ltb (length t) k) (ltb (numberOf (take k t)) least) refl refl p
+    by (Follow k least) e p = by-follow at b t (λ i. bs (suc i)) (form-of (b % 32) e) (ltb (length t) k) (ltb (bigOf (take k t)) least) refl refl p
 
 -- the next place is past this one, and inside
 pub next-inside : (at : ℕ) (s : List ℕ) {major n next : ℕ} → headAt at s ≡ Got major n next → (at < next) × (next ≤ at + length s)
@@ -213,7 +214,7 @@ next-inside at (b ∷ t) {major} {n} {next} p = by (widthOf (b % 32)) p
     by : (w : Width) → headBy at (b / 32) (b % 32) w t ≡ Got major n next → (at < next) × (next ≤ at + length (b ∷ t))
     by Here p = let x : at + 1 ≡ next = cc in (omega arith, omega arith)
     by Refused p = let z : _≡_ {A = ℕ} 0 1 = cc in let z : ⊥ = omega arith in elim z [ ]
-    by (Follow k least) p = pass k (ltb (length t) k) (ltb (numberOf (take k t)) least) refl (numberOf (take k t)) p
+    by (Follow k least) p = pass k (ltb (length t) k) (ltb (bigOf (take k t)) least) refl (bigOf (take k t)) p
 
 -- the same of a place in a slice
 pub next-in : (s : List ℕ) (at : ℕ) {major n next : ℕ} → readHead s at ≡ Got major n next → (at < next) × (next ≤ length s)

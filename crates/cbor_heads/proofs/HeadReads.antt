@@ -12,7 +12,7 @@ use lib.ListN.{length, take, drop, getD, length-drop, drop-of-length-le}
 use lib.Seq.{drop-cons}
 use Rattle.cbor_heads.specs.declared.Head.the-variants.{Got, Bad}
 use Rattle.cbor_heads.specs.declared.Width.the-variants.{Here, Follow, Refused}
-use Rattle.cbor_heads.specs.Heads.{numberOf, headBy, headAt, widthOf, readHead}
+use Rattle.cbor_heads.specs.Reading.{bigOf, headBy, headAt, widthOf, readHead}
 
 pub at-end : (s : List ℕ) (at : ℕ) → length s ≤ at → Bad at ≡ readHead s at
 unfolding headAt
@@ -40,12 +40,12 @@ module _ (s : List ℕ) (at : ℕ) {n least : ℕ} (h : at < length s) (e : widt
   unfolding headBy
   at-short g = rw (length-drop, lt-ltb _ _ g) at follow
 
-  pub at-small : n ≤ length s - (at + 1) → numberOf (take n (drop (at + 1) s)) < least → Bad at ≡ readHead s at
+  pub at-small : n ≤ length s - (at + 1) → bigOf (take n (drop (at + 1) s)) < least → Bad at ≡ readHead s at
   unfolding headBy
   at-small g l = rw (length-drop, le-ltb _ _ g, lt-ltb _ _ l) at follow
 
-  pub at-value : n ≤ length s - (at + 1) → least ≤ numberOf (take n (drop (at + 1) s))
-      → Got (getD s at 0 / 32) (numberOf (take n (drop (at + 1) s))) (at + 1 + n) ≡ readHead s at
+  pub at-value : n ≤ length s - (at + 1) → least ≤ bigOf (take n (drop (at + 1) s))
+      → Got (getD s at 0 / 32) (bigOf (take n (drop (at + 1) s))) (at + 1 + n) ≡ readHead s at
   unfolding headBy
   at-value g l = rw (length-drop, le-ltb _ _ g, le-ltb _ _ l) at follow
 

@@ -5,7 +5,7 @@ use Prim.Native.Nat.{ℕ, _+_, _*_, _^_, _≤_, _<_}
 use native.Mathlib.Nat.{pow-suc, pow-le-pow-right, zero-lt-suc}
 use native.Mathlib.Numerals.{add-one}
 use lib.Arith.{digits-lt}
-use Rattle.cbor_heads.specs.Heads.{numberFrom}
+use Rattle.cbor_heads.specs.Reading.{numberFrom}
 
 -- one digit more
 pub more : (i : ℕ) {v b : ℕ} → v < 256 ^ i → b < 256 → v * 256 + b < 256 ^ (i + 1)

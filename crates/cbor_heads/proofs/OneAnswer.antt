@@ -3,7 +3,7 @@ use mathlib.Core.Path.{_≡_}
 use mathlib.Core.List.{List}
 use Prim.Native.Nat.{ℕ}
 use Rattle.basis.proofs.OneAnswer.{told}
-use Rattle.cbor_heads.specs.Heads.{widthOf, readHead}
+use Rattle.cbor_heads.specs.Reading.{widthOf, readHead}
 use Rattle.cbor_heads.specs.Counts.{readCount}
 use Rattle.cbor_heads.specs.declared.Width.{Width}
 use Rattle.cbor_heads.specs.declared.Head.{Head}

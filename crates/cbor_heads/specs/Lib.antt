@@ -1,2 +1,4 @@
+pub mod Majors
 pub mod Counts
 pub mod Heads
+pub mod Reading

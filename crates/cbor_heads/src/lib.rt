@@ -3,8 +3,11 @@
 ghost use mathlib.Core.Path.{_≡_};
 ghost use Prim.Native.Nat.{_<_, _≤_};
 ghost use lib.ListN.{length};
-ghost use Rattle.cbor_heads.specs.Heads.{numberOf, widthOf, readHead};
+ghost use Rattle.cbor_heads.specs.Reading.{bigOf, widthOf, readHead};
 ghost use Rattle.cbor_heads.specs.Counts.{readCount};
+
+pub mod defect;
+pub mod major;
 
 // How many bytes follow a head's first one, and the least number that they may hold.
 pub enum Width {
@@ -43,7 +46,7 @@ pub fn width_of(low: u8) -> Width
 // A big-endian number of at most eight bytes.
 fn number(s: &[u8]) -> u64
     requires { ⌜ length (now s) ≤ 8 ⌝ }
-    ensures { λ r. ⌜ r ≡ numberOf (now (s .entry)) ⌝ }
+    ensures { λ r. ⌜ r ≡ bigOf (now (s .entry)) ⌝ }
 {
     let mut v: u64 = 0;
     let mut i: usize = 0;
@@ -93,17 +96,26 @@ pub fn read_count(s: &[u8], at: usize, major: u8, least: u64, most: u64, above: 
     ensures { λ r. ⌜ r ≡ readCount (now (s .entry)) at major least most above ⌝ }
 {
     match read_head(s, at) {
-        Head::Bad { at: a } => Count::Bad { kind: 4, at: a },
+        Head::Bad { at: a } => Count::Bad {
+            kind: defect::CBOR,
+            at: a,
+        },
         Head::Got {
             major: m,
             value: n,
             next,
         } => {
             if m != major {
-                return Count::Bad { kind: 4, at };
+                return Count::Bad {
+                    kind: defect::CBOR,
+                    at,
+                };
             }
             if n < least {
-                return Count::Bad { kind: 4, at };
+                return Count::Bad {
+                    kind: defect::CBOR,
+                    at,
+                };
             }
             if most < n {
                 return Count::Bad { kind: above, at };

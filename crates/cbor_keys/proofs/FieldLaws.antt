@@ -12,7 +12,8 @@ use Rattle.cbor_strings.specs.declared.Class.the-variants.{Name}
 use Rattle.cbor_heads.specs.declared.Count.the-variants.{Of as Counted}
 use Rattle.cbor_strings.specs.declared.Content.the-variants.{Of as Found}
 use Rattle.cbor_heads.proofs.CountLaws.{head-there, there-head, count, counted}
-use Rattle.cbor_keys.specs.Keys.{keysOf, indexOfKey, wantedKey}
+use Rattle.cbor_keys.specs.Keys.{keysOf}
+use Rattle.cbor_keys.specs.Reading.{indexOfKey, wantedKey}
 use Rattle.cbor_keys.specs.Fields.{nameAt, nameField, numberAt, numberField}
 use Rattle.cbor_keys.specs.Maps.{text, GoodText}
 use Rattle.cbor_keys.specs.declared.Names.{Names}

@@ -7,7 +7,8 @@ use Rattle.basis.specs.Basis.{ascii}
 use Rattle.basis.specs.Same.{sameOf}
 use Rattle.cbor_keys.specs.declared.Names.{Names}
 use Rattle.cbor_keys.specs.declared.Names.the-variants.{Token, Scope, Caveat, T, Rate, Custom}
-use Rattle.cbor_keys.specs.Keys.{keysOf, indexFrom, indexOfKey}
+use Rattle.cbor_keys.specs.Keys.{keysOf}
+use Rattle.cbor_keys.specs.Reading.{indexFrom, indexOfKey}
 use Rattle.cbor_keys.specs.Indexes.{tokenC, tokenR, tokenS, tokenV, tokenKid, tokenTid, scopePrefix, scopeMethods, scopeMaxBytes}
 use Rattle.cbor_keys.specs.Indexes.{caveatT, caveatV, rateBurst, ratePerS, customNs, customCbor, customName}
 use Rattle.cbor_keys.specs.Indexes.{tExp, tNbf, tAud, tMethod, tPathPrefix, tIpCidr, tBytesLe, tRate, tTenant, tAmnesia, tGovPolicyDigest, tCustom}

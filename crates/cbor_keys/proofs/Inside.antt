@@ -7,7 +7,7 @@ use lib.ListN.{length}
 use Rattle.basis.specs.Basis.{between}
 use Rattle.basis.specs.declared.Span.{Span}
 use Rattle.basis.proofs.Picks.{either}
-use Rattle.cbor_strings.specs.Strings.{readRun}
+use Rattle.cbor_strings.specs.Reading.{readRun}
 use Rattle.cbor_strings.specs.declared.Class.the-variants.{Name}
 use Rattle.cbor_heads.specs.declared.Count.{Count}
 use Rattle.cbor_heads.specs.declared.Count.the-variants.{Of as Counted, Bad as NoCount}
@@ -17,7 +17,7 @@ use Rattle.cbor_strings.proofs.Inside.{CountIn, ContentIn, count-in, run-in, st
 use Rattle.cbor_values.specs.declared.Item.{Item}
 use Rattle.cbor_values.specs.declared.Item.the-variants.{End, Bad as NoItem}
 use Rattle.cbor_values.proofs.Inside.{ItemIn}
-use Rattle.cbor_keys.specs.Keys.{indexOfKey, knownBy, keyBy, keyAt, wantedBy, wantedKey}
+use Rattle.cbor_keys.specs.Reading.{indexOfKey, knownBy, keyBy, keyAt, wantedBy, wantedKey}
 use Rattle.cbor_keys.specs.Fields.{nameAt, nameField, numberAt, numberField}
 use Rattle.cbor_keys.specs.Steps.{afterItem, afterContent, afterCount, afterKey}
 use Rattle.cbor_keys.specs.declared.Names.{Names}

@@ -14,11 +14,13 @@ use Rattle.basis.specs.Same.{sameOf}
 use Rattle.basis.proofs.Parts.{ends}
 use Rattle.basis.proofs.Sameness.{same-equal}
 use Rattle.cbor_heads.specs.Heads.{head}
-use Rattle.cbor_strings.specs.Strings.{string, readRun}
+use Rattle.cbor_strings.specs.Strings.{string}
+use Rattle.cbor_strings.specs.Reading.{readRun}
 use Rattle.cbor_strings.specs.declared.Content.{Content}
 use Rattle.cbor_strings.specs.declared.Content.the-variants.{Of as Found, Bad as NoContent}
 use Rattle.cbor_strings.proofs.StringLaws.{read-run-written, content-there, written-run}
-use Rattle.cbor_keys.specs.Keys.{keysOf, indexFrom, indexOfKey, knownBy, keyBy, keyAt, wantedBy, wantedKey}
+use Rattle.cbor_keys.specs.Keys.{keysOf}
+use Rattle.cbor_keys.specs.Reading.{indexFrom, indexOfKey, knownBy, keyBy, keyAt, wantedBy, wantedKey}
 use Rattle.cbor_values.specs.declared.Item.the-variants.{End, Bad as NoItem}
 use Rattle.cbor_keys.specs.declared.Names.{Names}
 use Rattle.cbor_keys.specs.declared.Key.{Key}

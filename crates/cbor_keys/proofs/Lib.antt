@@ -6,3 +6,4 @@ pub mod OneAnswer
 pub mod Inside
 pub mod DefectKinds
 pub mod Indexes
+pub mod MapLaws

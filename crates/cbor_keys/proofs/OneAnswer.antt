@@ -6,7 +6,7 @@ use Rattle.basis.proofs.OneAnswer.{told}
 use Rattle.cbor_values.specs.declared.Item.{Item}
 use Rattle.cbor_heads.specs.declared.Count.{Count}
 use Rattle.cbor_strings.specs.declared.Content.{Content}
-use Rattle.cbor_keys.specs.Keys.{keyAt, wantedKey}
+use Rattle.cbor_keys.specs.Reading.{keyAt, wantedKey}
 use Rattle.cbor_keys.specs.Fields.{nameField, numberField}
 use Rattle.cbor_keys.specs.declared.Names.{Names}
 use Rattle.cbor_keys.specs.declared.Key.{Key}

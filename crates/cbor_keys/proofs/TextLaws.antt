@@ -9,7 +9,7 @@ use Rattle.basis.specs.Basis.{fromTo, between, IsBytes}
 use Rattle.basis.specs.declared.Span.{Span}
 use Rattle.basis.proofs.Parts.{ends}
 use Rattle.cbor_heads.specs.Heads.{head}
-use Rattle.cbor_strings.specs.Strings.{readString}
+use Rattle.cbor_strings.specs.Reading.{readString}
 use Rattle.cbor_strings.specs.declared.Class.{Class}
 use Rattle.cbor_strings.specs.declared.Content.the-variants.{Of}
 use Rattle.cbor_heads.proofs.HeadLaws.{head-unique}

@@ -1,4 +1,4 @@
--- The index of each name among those of its place: `keysOf` lists them in this order (`indexes` of proofs/Indexes.antt).
+-- Reading. The index of each name among those of its place: `keysOf` lists them in this order (`indexes` of proofs/Indexes.antt).
 use Prim.Native.Nat.{ℕ}
 
 -- the keys of a token

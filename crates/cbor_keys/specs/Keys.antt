@@ -1,27 +1,18 @@
--- The keys of each map and the names of t, and the one reading of a name. Document 01, "Reading order": "Its key not known: schema.unknown_field;
--- known but repeated, out of order, or with a required key passed over ..: parse.cbor. .. Keys and t have no length range of their
--- own, and any content that is not a known name is schema.unknown_field."
+-- Meaning. The keys of each map and the names of t, and the one reading of a name. Document 01, "Reading order": "Its key not known:
+-- schema.unknown_field; known but repeated, out of order, or with a required key passed over ..: parse.cbor. .. Keys and t have no length
+-- range of their own, and any content that is not a known name is schema.unknown_field."
 use mathlib.Core.List.{List, [], _∷_}
-use Prim.Native.Nat.{ℕ, suc}
 use Prim.Native.String.{String}
-use lib.Dec.{eqb}
-use Rattle.basis.specs.Basis.{pick, ascii, between}
-use Rattle.basis.specs.Same.{sameOf}
-use Rattle.cbor_strings.specs.Strings.{readRun}
-use Rattle.cbor_strings.specs.declared.Content.{Content}
-use Rattle.cbor_strings.specs.declared.Content.the-variants.{Of as Found, Bad as NoContent}
-use Rattle.cbor_values.specs.declared.Item.{Item}
-use Rattle.cbor_values.specs.declared.Item.the-variants.{End, Bad as NoItem}
 use Rattle.cbor_keys.specs.declared.Names.{Names}
 use Rattle.cbor_keys.specs.declared.Names.the-variants.{Token, Scope, Caveat, T, Rate, Custom}
-use Rattle.cbor_keys.specs.declared.Key.{Key}
-use Rattle.cbor_keys.specs.declared.Key.the-variants.{Of, Bad}
 
 -- the second half of the names of t
 abbrev pub moreTs : List String
 moreTs = "bytes_le" ∷ "rate" ∷ "tenant" ∷ "amnesia" ∷ "gov_policy_digest" ∷ "custom" ∷ []
 
--- keys in bytewise order of their encodings; the names of t in the interop paper's order (2.3)
+-- 01: "Keys stand in bytewise order of their encodings: token, all six: c, r, s, v, kid, tid. .. scope r: prefix (may be absent), methods,
+-- max_bytes (may be absent). caveat: t, v. Rate value: burst, per_s .. Custom value: ns, cbor, name." The names of t stand in the interop
+-- paper's order (2.3)
 unfoldable pub keysOf : Names → List String
 keysOf Token = "c" ∷ "r" ∷ "s" ∷ "v" ∷ "kid" ∷ "tid" ∷ []
 keysOf Scope = "prefix" ∷ "methods" ∷ "max_bytes" ∷ []
@@ -29,29 +20,3 @@ keysOf Caveat = "t" ∷ "v" ∷ []
 keysOf T = "exp" ∷ "nbf" ∷ "aud" ∷ "method" ∷ "path_prefix" ∷ "ip_cidr" ∷ moreTs
 keysOf Rate = "burst" ∷ "per_s" ∷ []
 keysOf Custom = "ns" ∷ "cbor" ∷ "name" ∷ []
-
--- the index of the first name that the content is; 16 where it is none, since no place has so many names
-unfoldable pub indexFrom : ℕ → List ℕ → List String → ℕ
-indexFrom i c [] = 16
-indexFrom i c (n ∷ ns) = pick (sameOf c (ascii n)) i (indexFrom (suc i) c ns)
-
-abbrev pub indexOfKey : Names → List ℕ → ℕ
-indexOfKey names c = indexFrom 0 c (keysOf names)
-
-unfoldable pub knownBy : ℕ → ℕ → ℕ → Key
-knownBy at to index = pick (eqb index 16) (Bad 6 at) (Of index to)
-
-unfoldable pub keyBy : Names → List ℕ → ℕ → Content → Key
-keyBy names s at (NoContent kind a) = Bad kind a
-keyBy names s at (Found part) = knownBy at (part .to) (indexOfKey names (between s part))
-
-abbrev pub keyAt : Names → List ℕ → ℕ → Key
-keyAt names s at = keyBy names s at (readRun s at 3 0 0xffffffffffffffff)
-
--- where the key wanted ends; another that is known is out of its place
-unfoldable pub wantedBy : ℕ → ℕ → Key → Item
-wantedBy at want (Bad kind a) = NoItem kind a
-wantedBy at want (Of index next) = pick (eqb index want) (End next) (NoItem 4 at)
-
-abbrev pub wantedKey : Names → List ℕ → ℕ → ℕ → Item
-wantedKey names s at want = wantedBy at want (keyAt names s at)

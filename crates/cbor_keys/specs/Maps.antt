@@ -1,4 +1,4 @@
--- What the maps of a token share: keys, entries that may be absent, lists of texts, strings within limits.
+-- Meaning. What the maps of a token share: keys, entries that may be absent, lists of texts, strings within limits.
 use mathlib.Core.Path.{_≡_}
 use mathlib.Core.Bool.{true}
 use mathlib.Core.List.{List, [], _∷_, _++_}
@@ -7,12 +7,13 @@ use Prim.Native.Nat.{ℕ, _≤_}
 use Prim.Native.String.{String}
 use lib.ListN.{length}
 use Rattle.basis.specs.Basis.{ascii}
+use Rattle.cbor_heads.specs.Majors.{textString}
 use Rattle.cbor_strings.specs.Strings.{string, contentOf}
 use Rattle.cbor_strings.specs.declared.Class.{Class}
 
 -- major types: 2 a byte string, 3 a text, 4 an array, 5 a map, each with its length or count
 abbrev pub text : List ℕ → List ℕ
-text = string 3
+text = string textString
 
 -- an entry of a map: its key and its value's bytes
 abbrev pub entry : String → List ℕ → List ℕ

@@ -1,4 +1,4 @@
--- One reading, left to right (document 01, "Reading order"): "the first defect is the answer". A step that is right hands what it
+-- Reading. One reading, left to right (document 01, "Reading order"): "the first defect is the answer". A step that is right hands what it
 -- found to the rest, and a step's defect is the answer of the whole.
 use Prim.Native.Nat.{ℕ}
 use Rattle.basis.specs.declared.Span.{Span}

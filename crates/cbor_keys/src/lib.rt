@@ -1,11 +1,17 @@
 // The keys of each map and the names of t: read as text of any length, found among the names of their
 // place, and told by their index there. A defect carries document 01's number and the place.
+use basis::limits;
 use cbor_heads::Count;
+use cbor_heads::defect::BOUNDS;
+use cbor_heads::defect::CBOR;
+use cbor_heads::defect::UNKNOWN;
+use cbor_heads::major;
 use cbor_strings::Class;
 use cbor_strings::Content;
 use cbor_values::Item;
 ghost use mathlib.Core.Path.{_≡_};
-ghost use Rattle.cbor_keys.specs.Keys.{indexFrom, indexOfKey, moreTs, keyAt, wantedKey};
+ghost use Rattle.cbor_keys.specs.Keys.{moreTs};
+ghost use Rattle.cbor_keys.specs.Reading.{indexFrom, indexOfKey, keyAt, wantedKey};
 ghost use Rattle.cbor_keys.specs.Fields.{nameField, numberField};
 ghost use Rattle.cbor_keys.specs.declared.Names.the-variants.{Token, Scope, Caveat, T, Rate, Custom};
 
@@ -169,14 +175,14 @@ fn key_index(names: Names, c: &[u8]) -> u32
 pub fn key_at(s: &[u8], at: usize, names: Names) -> Key
     ensures { λ r. ⌜ r ≡ keyAt names (now (s .entry)) at ⌝ }
 {
-    match cbor_strings::read_run(s, at, 3, 0, 0xffff_ffff_ffff_ffff) {
+    match cbor_strings::read_run(s, at, major::TEXT, 0, limits::NUMBER_MOST) {
         Content::Bad { kind, at: a } => Key::Bad { kind, at: a },
         Content::Of { span } => {
             let from = span.from;
             let to = span.to;
             let index = key_index(names, &s[from..to]);
             if index == 16 {
-                return Key::Bad { kind: 6, at };
+                return Key::Bad { kind: UNKNOWN, at };
             }
             Key::Of { index, next: to }
         }
@@ -192,7 +198,7 @@ pub fn wanted_key(s: &[u8], at: usize, names: Names, want: u32) -> Item
             if index == want {
                 return Item::End { next };
             }
-            Item::Bad { kind: 4, at }
+            Item::Bad { kind: CBOR, at }
         }
     }
 }
@@ -203,7 +209,7 @@ pub fn name_field(s: &[u8], at: usize, names: Names, want: u32) -> Content
 {
     match wanted_key(s, at, names, want) {
         Item::Bad { kind, at: a } => Content::Bad { kind, at: a },
-        Item::End { next } => cbor_strings::read_string(s, next, Class::Name, 1, 64),
+        Item::End { next } => cbor_strings::read_string(s, next, Class::Name, 1, limits::NAME_MOST),
     }
 }
 
@@ -213,6 +219,6 @@ pub fn number_field(s: &[u8], at: usize, names: Names, want: u32, most: u64) -> 
 {
     match wanted_key(s, at, names, want) {
         Item::Bad { kind, at: a } => Count::Bad { kind, at: a },
-        Item::End { next } => cbor_heads::read_count(s, next, 0, 0, most, 5),
+        Item::End { next } => cbor_heads::read_count(s, next, major::UNSIGNED, 0, most, BOUNDS),
     }
 }

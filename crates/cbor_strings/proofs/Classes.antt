@@ -11,7 +11,8 @@ use lib.ListN.{length, drop, getD, drop-of-length-le}
 use lib.Seq.{drop-cons}
 use Rattle.basis.specs.Basis.{pick, IsBytes}
 use Rattle.basis.proofs.All.{all, all-at}
-use Rattle.cbor_strings.specs.Strings.{within, isName, isPrintable, isUpper, isHex, allOf, contentOf, kindOf, kindsFrom}
+use Rattle.cbor_strings.specs.Strings.{within, isName, isPrintable, isUpper, isHex, allOf, contentOf}
+use Rattle.cbor_strings.specs.Inner.{kindOf, kindsFrom}
 use Rattle.cbor_strings.specs.declared.Class.the-variants.{Name, Printable, Path, Upper, Hex}
 
 -- characters from a to below b are of one kind

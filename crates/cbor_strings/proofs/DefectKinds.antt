@@ -5,9 +5,9 @@ use Prim.{Unit, tt}
 use Prim.Native.Nat.{ℕ, _≤_}
 use native.Mathlib.Omega.{arith}
 use lib.ListN.{length}
-use Rattle.cbor_heads.specs.Heads.{readHead}
+use Rattle.cbor_heads.specs.Reading.{readHead}
 use Rattle.cbor_heads.specs.Counts.{countBy, readCount}
-use Rattle.cbor_strings.specs.Strings.{runBy, readRun, contentBy, readString}
+use Rattle.cbor_strings.specs.Reading.{runBy, readRun, contentBy, readString}
 use Rattle.cbor_heads.specs.declared.Head.{Head}
 use Rattle.cbor_heads.specs.declared.Head.the-variants.{Got, Bad as NoHead}
 use Rattle.cbor_strings.specs.declared.Class.{Class}

@@ -8,9 +8,10 @@ use lib.ListN.{length, take, drop, length-drop}
 use Rattle.basis.specs.Basis.{fromTo, between}
 use Rattle.basis.specs.declared.Span.{Span}
 use Rattle.basis.proofs.Picks.{either, tested}
-use Rattle.cbor_heads.specs.Heads.{numberOf, widthOf, headBy, headAt, readHead}
+use Rattle.cbor_heads.specs.Reading.{bigOf, widthOf, headBy, headAt, readHead}
 use Rattle.cbor_heads.specs.Counts.{countBy, readCount}
-use Rattle.cbor_strings.specs.Strings.{contentOf, runBy, readRun, contentBy, readString}
+use Rattle.cbor_strings.specs.Strings.{contentOf}
+use Rattle.cbor_strings.specs.Reading.{runBy, readRun, contentBy, readString}
 use Rattle.cbor_heads.specs.declared.Width.{Width}
 use Rattle.cbor_heads.specs.declared.Width.the-variants.{Here, Follow, Refused}
 use Rattle.cbor_heads.specs.declared.Head.{Head}
@@ -35,9 +36,9 @@ ContentIn size (NoContent kind at) = at ≤ size
 
 -- the ways out of each definition, for whatever is to hold of its answer
 module _ (P : Head → Type 0) (at major low k least : ℕ) (t : List ℕ) where
-  follow-ways : P (NoHead at) → (k ≤ length t → P (Got major (numberOf (take k t)) (at + 1 + k))) → P (headBy at major low (Follow k least) t)
+  follow-ways : P (NoHead at) → (k ≤ length t → P (Got major (bigOf (take k t)) (at + 1 + k))) → P (headBy at major low (Follow k least) t)
   unfolding headBy
-  follow-ways bad good = tested P (ltb (length t) k) (λ e. bad) (λ e. either P (ltb (numberOf (take k t)) least) bad (good (ltb-false _ _ e)))
+  follow-ways bad good = tested P (ltb (length t) k) (λ e. bad) (λ e. either P (ltb (bigOf (take k t)) least) bad (good (ltb-false _ _ e)))
 
 module _ (P : Count → Type 0) (at major least most above m n next : ℕ) where
   pub count-ways : P (NoCount 4 at) → P (NoCount above at) → P (Counted n next) → P (countBy at major least most above (Got m n next))

@@ -10,8 +10,9 @@ use lib.ListN.{length, take, drop}
 use Rattle.basis.specs.Basis.{pick, fromTo, between}
 use Rattle.basis.specs.declared.Span.{Span}
 use Rattle.basis.proofs.Parts.{begins-alike, ends-alike}
-use Rattle.cbor_heads.specs.Heads.{readHead}
-use Rattle.cbor_strings.specs.Strings.{contentOf, runBy, readRun, contentBy, readString}
+use Rattle.cbor_heads.specs.Reading.{readHead}
+use Rattle.cbor_strings.specs.Strings.{contentOf}
+use Rattle.cbor_strings.specs.Reading.{runBy, readRun, contentBy, readString}
 use Rattle.cbor_strings.specs.declared.Class.{Class}
 use Rattle.cbor_heads.specs.declared.Head.{Head}
 use Rattle.cbor_heads.specs.declared.Head.the-variants.{Got, Bad as NoHead}

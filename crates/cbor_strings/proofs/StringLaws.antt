@@ -10,8 +10,10 @@ use lib.ListN.{length, take, drop, length-append, length-drop, take-append-drop}
 use lib.Seq.{drop-drop, length-take-le, take-at, drop-at}
 use Rattle.basis.specs.Basis.{fromTo, between, IsBytes}
 use Rattle.basis.specs.declared.Span.{Span}
-use Rattle.cbor_heads.specs.Heads.{head, headAt, readHead}
-use Rattle.cbor_strings.specs.Strings.{string, contentOf, runBy, readRun, contentBy, readString}
+use Rattle.cbor_heads.specs.Heads.{head}
+use Rattle.cbor_heads.specs.Reading.{headAt, readHead}
+use Rattle.cbor_strings.specs.Strings.{string, contentOf}
+use Rattle.cbor_strings.specs.Reading.{runBy, readRun, contentBy, readString}
 use Rattle.cbor_strings.specs.declared.Class.{Class}
 use Rattle.cbor_heads.specs.declared.Head.the-variants.{Got}
 use Rattle.cbor_strings.specs.declared.Content.the-variants.{Of}

@@ -1,1 +1,3 @@
 pub mod Strings
+pub mod Inner
+pub mod Reading

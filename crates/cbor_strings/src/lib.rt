@@ -2,10 +2,15 @@
 // place in it; a defect carries document 01's number and the place of the item at fault.
 use basis::Span;
 use cbor_heads::Head;
+use cbor_heads::defect::BOUNDS;
+use cbor_heads::defect::CBOR;
+use cbor_heads::major;
 ghost use mathlib.Core.Path.{_≡_};
 ghost use Prim.Native.Nat.{_<_, min, max};
 ghost use lib.ListN.{length};
-ghost use Rattle.cbor_strings.specs.Strings.{within, allOf, kindOf, kindsFrom, contentOf, readRun, readString};
+ghost use Rattle.cbor_strings.specs.Strings.{within, allOf, contentOf};
+ghost use Rattle.cbor_strings.specs.Inner.{kindOf, kindsFrom};
+ghost use Rattle.cbor_strings.specs.Reading.{readRun, readString};
 
 // What a string may hold.
 pub enum Class {
@@ -160,23 +165,23 @@ pub fn read_run(s: &[u8], at: usize, major: u8, low: u64, high: u64) -> Content
     ensures { λ r. ⌜ r ≡ readRun (now (s .entry)) at major low high ⌝ }
 {
     match cbor_heads::read_head(s, at) {
-        Head::Bad { at: a } => Content::Bad { kind: 4, at: a },
+        Head::Bad { at: a } => Content::Bad { kind: CBOR, at: a },
         Head::Got {
             major: m,
             value: n,
             next,
         } => {
             if m != major {
-                return Content::Bad { kind: 4, at };
+                return Content::Bad { kind: CBOR, at };
             }
             if n < low {
-                return Content::Bad { kind: 5, at };
+                return Content::Bad { kind: BOUNDS, at };
             }
             if high < n {
-                return Content::Bad { kind: 5, at };
+                return Content::Bad { kind: BOUNDS, at };
             }
             if s.len() - next < n as usize {
-                return Content::Bad { kind: 4, at };
+                return Content::Bad { kind: CBOR, at };
             }
             Content::Of {
                 span: Span {
@@ -192,7 +197,7 @@ pub fn read_run(s: &[u8], at: usize, major: u8, low: u64, high: u64) -> Content
 pub fn read_string(s: &[u8], at: usize, class: Class, low: u64, high: u64) -> Content
     ensures { λ r. ⌜ r ≡ readString (now (s .entry)) at class low high ⌝ }
 {
-    match read_run(s, at, 3, low, high) {
+    match read_run(s, at, major::TEXT, low, high) {
         Content::Bad { kind: k, at: a } => Content::Bad { kind: k, at: a },
         Content::Of { span } => {
             let from = span.from;
@@ -200,7 +205,10 @@ pub fn read_string(s: &[u8], at: usize, class: Class, low: u64, high: u64) -> Co
             if content_is(&s[from..to], class) {
                 return Content::Of { span };
             }
-            Content::Bad { kind: 4, at: from }
+            Content::Bad {
+                kind: CBOR,
+                at: from,
+            }
         }
     }
 }

@@ -2,7 +2,7 @@
 use mathlib.Core.List.{List}
 use Prim.{Unit, tt}
 use Prim.Native.Nat.{ℕ, zero, suc}
-use Rattle.cbor_heads.specs.Heads.{readHead}
+use Rattle.cbor_heads.specs.Reading.{readHead}
 use Rattle.cbor_heads.specs.declared.Head.{Head}
 use Rattle.cbor_heads.specs.declared.Head.the-variants.{Got, Bad as NoHead}
 use Rattle.cbor_strings.proofs.DefectKinds.{Kind, kind-4, kind-5}

@@ -6,7 +6,7 @@ use borrow.Author.Tests.{ltb-false}
 use lib.Dec.{ltb, eqb}
 use lib.ListN.{length, take, drop}
 use Rattle.basis.proofs.Picks.{either, tested}
-use Rattle.cbor_heads.specs.Heads.{readHead}
+use Rattle.cbor_heads.specs.Reading.{readHead}
 use Rattle.cbor_heads.specs.declared.Head.{Head}
 use Rattle.cbor_heads.specs.declared.Head.the-variants.{Got, Bad as NoHead}
 use Rattle.cbor_strings.proofs.Inside.{HeadIn, head-in}

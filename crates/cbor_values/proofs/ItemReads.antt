@@ -6,7 +6,7 @@ use Prim.Native.Nat.{ℕ, zero, suc, _+_, _-_, _≤_, _<_}
 use native.Mathlib.Omega.{arith}
 use borrow.Author.Tests.{lt-ltb, le-ltb, ne-eqb}
 use lib.ListN.{length, take, drop}
-use Rattle.cbor_heads.specs.Heads.{readHead}
+use Rattle.cbor_heads.specs.Reading.{readHead}
 use Rattle.cbor_heads.specs.declared.Head.the-variants.{Got, Bad as NoHead}
 use Rattle.cbor_values.specs.Utf8.{utf8}
 use Rattle.cbor_values.specs.Reading.{runOf, textOf, andThen, itemsOf, byMajor, valueOf}

@@ -9,7 +9,8 @@ use lib.Dec.{ltb, eqb}
 use lib.ListN.{length, take, drop, length-drop, take-append-drop}
 use lib.Seq.{drop-drop, length-take-le}
 use Rattle.basis.specs.Basis.{pick, IsBytes}
-use Rattle.cbor_heads.specs.Heads.{head, readHead}
+use Rattle.cbor_heads.specs.Heads.{head}
+use Rattle.cbor_heads.specs.Reading.{readHead}
 use Rattle.cbor_strings.specs.Strings.{string}
 use Rattle.cbor_heads.specs.declared.Head.{Head}
 use Rattle.cbor_heads.specs.declared.Head.the-variants.{Got, Bad as NoHead}

@@ -1,10 +1,11 @@
--- What a custom caveat's value is, as a tree, and how it is written. Document 01, "Token bytes": "an integer of either sign, byte
+-- Meaning. What a custom caveat's value is, as a tree, and how it is written. Document 01, "Token bytes": "an integer of either sign, byte
 -- string, text (UTF-8 by RFC 3629), true, false, null, or arrays inside arrays, four deep at most".
 use mathlib.Core.Path.{_≡_}
 use mathlib.Core.Bool.{true}
 use mathlib.Core.List.{List, [], _++_}
 use Prim.Native.Nat.{ℕ, zero, suc, _<_, _≤_, _^_}
 use lib.ListN.{length}
+use Rattle.cbor_heads.specs.Majors.{unsigned, byteString, textString, negative as negativeMajor, simple as simpleMajor, array as arrayMajor}
 use Rattle.cbor_heads.specs.Heads.{head}
 use Rattle.cbor_strings.specs.Strings.{string}
 use Rattle.cbor_values.specs.Utf8.{utf8}
@@ -29,12 +30,12 @@ count (more v vs) = suc (count vs)
 
 unfoldable mutual
   pub encode : Value → List ℕ
-  encode (number n) = head 0 n
-  encode (negative n) = head 1 n
-  encode (bytes c) = string 2 c
-  encode (text c) = string 3 c
-  encode (simple n) = head 7 n
-  encode (array vs) = head 4 (count vs) ++ encodes vs
+  encode (number n) = head unsigned n
+  encode (negative n) = head negativeMajor n
+  encode (bytes c) = string byteString c
+  encode (text c) = string textString c
+  encode (simple n) = head simpleMajor n
+  encode (array vs) = head arrayMajor (count vs) ++ encodes vs
 
   pub encodes : Values → List ℕ
   encodes none = []

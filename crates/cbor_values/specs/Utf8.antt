@@ -1,4 +1,4 @@
--- UTF-8 by RFC 3629, section 4: what may stand first, and what each first byte asks of those behind it.
+-- Meaning. UTF-8 by RFC 3629, section 4: what may stand first, and what each first byte asks of those behind it.
 use mathlib.Core.Bool.{Bool, false}
 use mathlib.Core.List.{List, [], _∷_}
 use Prim.Native.Nat.{ℕ, _-_}

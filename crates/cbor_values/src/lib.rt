@@ -2,6 +2,9 @@
 // a slice of any length, with any count of elements. UTF-8 by RFC 3629.
 use basis::Span;
 use cbor_heads::Head;
+use cbor_heads::defect::BOUNDS;
+use cbor_heads::defect::CBOR;
+use cbor_heads::major;
 ghost use mathlib.Core.Path.{_≡_};
 ghost use Prim.Native.Nat.{_<_, _≤_};
 ghost use lib.ListN.{length};
@@ -117,7 +120,7 @@ fn run(s: &[u8], at: usize, next: usize, n: u64) -> Item
     ensures { λ r. ⌜ r ≡ runOf (now (s .entry)) at next n ⌝ }
 {
     if s.len() - next < n as usize {
-        return Item::Bad { kind: 4, at };
+        return Item::Bad { kind: CBOR, at };
     }
     Item::End {
         next: next + n as usize,
@@ -130,13 +133,16 @@ fn text(s: &[u8], at: usize, next: usize, n: u64) -> Item
 {
     let k = n as usize;
     if s.len() - next < k {
-        return Item::Bad { kind: 4, at };
+        return Item::Bad { kind: CBOR, at };
     }
     let end = next + k;
     if is_utf8(&s[next..end]) {
         return Item::End { next: end };
     }
-    Item::Bad { kind: 4, at: next }
+    Item::Bad {
+        kind: CBOR,
+        at: next,
+    }
 }
 
 // One value at `at`, with `depth` levels of arrays left.
@@ -144,32 +150,32 @@ pub fn read_value(s: &[u8], at: usize, depth: u8) -> Item
     ensures { λ r. ⌜ r ≡ valueOf depth (now (s .entry)) at ⌝ }
 {
     match cbor_heads::read_head(s, at) {
-        Head::Bad { at: a } => Item::Bad { kind: 4, at: a },
+        Head::Bad { at: a } => Item::Bad { kind: CBOR, at: a },
         Head::Got {
             major,
             value: n,
             next,
         } => match major {
-            0 | 1 => Item::End { next },
-            2 => run(s, at, next, n),
-            3 => text(s, at, next, n),
-            4 => {
+            major::UNSIGNED | major::NEGATIVE => Item::End { next },
+            major::BYTES => run(s, at, next, n),
+            major::TEXT => text(s, at, next, n),
+            major::ARRAY => {
                 if depth == 0 {
-                    Item::Bad { kind: 5, at }
+                    Item::Bad { kind: BOUNDS, at }
                 } else {
                     items(s, next, n, depth - 1)
                 }
             }
-            7 => {
+            major::SIMPLE => {
                 if n < 20 {
-                    return Item::Bad { kind: 4, at };
+                    return Item::Bad { kind: CBOR, at };
                 }
                 if n < 23 {
                     return Item::End { next };
                 }
-                Item::Bad { kind: 4, at }
+                Item::Bad { kind: CBOR, at }
             }
-            _ => Item::Bad { kind: 4, at },
+            _ => Item::Bad { kind: CBOR, at },
         },
     }
 }

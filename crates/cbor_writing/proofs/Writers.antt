@@ -12,7 +12,8 @@ use Rattle.basis.specs.Basis.{Written}
 use Rattle.basis.proofs.Rooms.{lent}
 use Rattle.cbor_heads.specs.Heads.{big, head}
 use Rattle.cbor_heads.proofs.HeadLaws.{bytes-length}
-use Rattle.cbor_writing.specs.Placing.{placed, Placed, Formed}
+use Rattle.cbor_writing.specs.Placing.{placed, Placed}
+use Rattle.cbor_writing.specs.Inner.{Formed}
 use Rattle.cbor_writing.proofs.PlacingLaws.{placed-more}
 
 -- the part has room, so all is written

@@ -6,7 +6,8 @@ ghost use Prim.Native.Nat.{_+_, _<_, _≤_};
 ghost use lib.ListN.{length, drop};
 ghost use Rattle.cbor_heads.specs.Heads.{big, head};
 ghost use Rattle.cbor_strings.specs.Strings.{string};
-ghost use Rattle.cbor_writing.specs.Placing.{Placed, Formed};
+ghost use Rattle.cbor_writing.specs.Placing.{Placed};
+ghost use Rattle.cbor_writing.specs.Inner.{Formed};
 
 // The first byte of a head, and how many bytes follow it.
 pub struct Form {

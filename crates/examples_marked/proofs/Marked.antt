@@ -4,7 +4,8 @@ use mathlib.Core.List.{[], _∷_}
 use mathlib.Core.Option.{none}
 use Rattle.basis.specs.Basis.{ascii}
 use Rattle.bytes.specs.Bytes.{indexOf, indexAfter}
-use Rattle.cbor_heads.specs.Heads.{big, head, numberFrom, widthOf, headBy, headAt, readHead}
+use Rattle.cbor_heads.specs.Heads.{big, head}
+use Rattle.cbor_heads.specs.Reading.{numberFrom, widthOf, headBy, headAt, readHead}
 use Rattle.cbor_heads.specs.declared.Head.the-variants.{Bad}
 use Rattle.cbor_keys.specs.Maps.{texts}
 use Rattle.token_scope.specs.Scopes.{encodeMethods, encodeScope}

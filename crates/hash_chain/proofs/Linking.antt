@@ -12,7 +12,8 @@ use Rattle.keyed_hash.specs.declared.Hashed.{Hashed}
 use Rattle.keyed_hash.specs.KeyedHash.{keyedHash, hashedOf}
 use Rattle.cbor_writing.specs.Placing.{Placed}
 use Rattle.cbor_writing.proofs.PlacingLaws.{placed-front, placed-then}
-use Rattle.hash_chain.specs.Chain.{domain, firstMessage, nextMessage, firstLink, nextLink, Macable, FirstOf}
+use Rattle.hash_chain.specs.Chain.{domain, firstMessage, nextMessage, firstLink, nextLink}
+use Rattle.hash_chain.specs.Inner.{Macable, FirstOf}
 
 pub mac-bytes : (key head body : List ℕ) {r : Hashed} → Macable key head body → r ≡ hashedOf key (head ++ body)
     → r .bytes ≡ keyedHash key (head ++ body)

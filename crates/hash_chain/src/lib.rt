@@ -3,7 +3,8 @@
 ghost use mathlib.Core.Path.{_≡_};
 ghost use mathlib.Core.List.{_++_};
 ghost use Rattle.keyed_hash.specs.KeyedHash.{keyedHash};
-ghost use Rattle.hash_chain.specs.Chain.{firstLink, nextLink, Macable, FirstOf, NextOf};
+ghost use Rattle.hash_chain.specs.Chain.{firstLink, nextLink};
+ghost use Rattle.hash_chain.specs.Inner.{Macable, FirstOf, NextOf};
 
 // The answer's number is not looked at: with such a key and such lengths the hash never refuses.
 fn mac(key: &[u8], head: &[u8], body: &[u8]) -> [u8; 32]

@@ -1,5 +1,5 @@
--- BLAKE3's chunks and parents in keyed mode, on lists of bytes, as the BLAKE3 paper has them in sections 2.1, 2.4 and 2.5; document 01,
--- "Chain", has their sizes and flags.
+-- Meaning. BLAKE3's chunks and parents in keyed mode, on lists of bytes, as the BLAKE3 paper has them in sections 2.1, 2.4 and 2.5;
+-- document 01, "Chain", has their sizes and flags.
 use mathlib.Core.List.{List, _++_}
 use Prim.Native.Nat.{ℕ, zero, suc, _+_, _*_}
 use lib.ListN.{length, take, drop, getD}

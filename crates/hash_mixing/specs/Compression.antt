@@ -1,5 +1,5 @@
--- BLAKE3's compression function on lists of 32-bit words, as the BLAKE3 paper has it in section 2.2 ("Compression
--- function"); document 01, "Chain", fixes the sums, the turns and the seven rounds.
+-- Meaning. BLAKE3's compression function on lists of 32-bit words, as the BLAKE3 paper has it in section 2.2 ("Compression function");
+-- document 01, "Chain", fixes the sums, the turns and the seven rounds.
 use mathlib.Core.List.{List, [], _∷_}
 use Prim.Native.Nat.{ℕ, zero, suc, _+_, _*_, _/_, _%_, _^_, _-_}
 use lib.ListN.{getD}

@@ -13,7 +13,8 @@ use Rattle.basis.proofs.Sameness.{same-equal}
 use Rattle.text_writing.specs.Base64url.{base64url}
 use Rattle.cbor_strings.specs.declared.Class.the-variants.{Name}
 use Rattle.cbor_keys.specs.Maps.{GoodText}
-use Rattle.hash_chain.specs.Chain.{firstLink, FirstOf}
+use Rattle.hash_chain.specs.Chain.{firstLink}
+use Rattle.hash_chain.specs.Inner.{FirstOf}
 use Rattle.hash_chain.proofs.ChainLaws.{link-length}
 use Rattle.token_scope.specs.Scopes.{Scope, encodeScope, GoodScope}
 use Rattle.token_scope.specs.Reading.{scopeOf}
@@ -27,7 +28,8 @@ use Rattle.records_table.specs.Tables.{Row, encodeTable, GoodFrom, GoodTable, h
 use Rattle.records_table.specs.Reading.{tableOk, findFrom}
 use Rattle.records_table.proofs.TableLaws.{table-read, find-finds, key-of-row}
 use Rattle.outcome.specs.Decisions.{Decision, refused, granted}
-use Rattle.issue.specs.Issuing.{issueWith, issueThen, issueOf, Issuable}
+use Rattle.issue.specs.Issuing.{issueWith, issueThen, issueOf}
+use Rattle.issue.specs.Inner.{Issuable}
 use Rattle.issue.proofs.Sizes.{fresh-few}
 
 -- a row that is found has these ids, which are of the right form

@@ -1,17 +1,19 @@
 // Issue: a fresh token for a scope. Any bytes may come; they are judged in document 01's order, and the room gets
 // only what is handed out whole.
+use basis::limits;
 use outcome::Outcome;
 use token_scope::ScopeParts;
 ghost use mathlib.Core.Path.{_≡_};
 ghost use Rattle.outcome.specs.Decisions.{Carried};
-ghost use Rattle.issue.specs.Issuing.{issueWith, issueOf, Issuable};
+ghost use Rattle.issue.specs.Issuing.{issueWith, issueOf};
+ghost use Rattle.issue.specs.Inner.{Issuable};
 
 // With the key, if one was found. 752 bytes are the longest fresh token.
 fn issue_with(key: &[u8], tid: &[u8], kid: &[u8], scope: &[u8], room: &mut [u8]) -> Outcome
     requires { ⌜ Issuable (now key) (now tid) (now kid) (now scope) ⌝ }
     ensures { λ r. ⌜ Carried (issueWith (now (key .entry)) (now (tid .entry)) (now (kid .entry)) (now (scope .entry))) (now (room .entry)) r (now (room .exit)) ⌝ }
 {
-    if key.len() == 32 {
+    if key.len() == limits::KEY_LENGTH {
         let tag = hash_chain::first_link(key, tid, kid, scope);
         let mut bytes = [0u8; 752];
         let n = token_writing::write_fresh(scope, &tag, kid, tid, &mut bytes);

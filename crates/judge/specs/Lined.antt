@@ -1,4 +1,4 @@
--- A room that was written: its first n bytes are the lines of the bundle.
+-- Meaning. A room that was written: its first n bytes are the lines of the bundle.
 use mathlib.Core.Path.{_≡_}
 use mathlib.Core.List.{List}
 use Prim.Native.Nat.{ℕ, _≤_}

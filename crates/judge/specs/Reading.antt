@@ -1,4 +1,4 @@
--- What reading comes to in a room of n bytes. No contract can say which bytes a read brings, so these say how many.
+-- Meaning. What reading comes to in a room of n bytes. No contract can say which bytes a read brings, so these say how many.
 use Prim.Native.Nat.{ℕ, _≤_, _<_}
 use Rattle.judge.specs.declared.Turn.{Turn}
 use Rattle.judge.specs.declared.Turn.the-variants.{More, End, Failed as TurnFailed}

@@ -13,7 +13,7 @@ use Rattle.answers.specs.declared.Answer.the-variants.{Allow}
 use Rattle.keyed_hash.specs.declared.Hashed.{Hashed}
 use Rattle.keyed_hash.specs.declared.Inside.the-variants.{Here}
 use Rattle.hash_chunks.specs.Chunks.{rootFlag, wordsOf}
-use Rattle.keyed_hash.specs.Tree.{bytesOf, treeOf}
+use Rattle.keyed_hash.specs.Tree.{bytesOfWords, treeOf}
 use Rattle.keyed_hash.specs.KeyedHash.{hash-is, refusedHash, hashedOf}
 use Rattle.keyed_hash.specs.Fits.{Fit}
 use Rattle.keyed_hash.proofs.Halves.{any-height}
@@ -41,10 +41,10 @@ pub fit-all : (n : ℕ) → n ≤ 8192 → Fit 3 n 0 rootFlag
 fit-all n l = record { low = omega arith; bytes = l; number = omega arith; flag = omega arith }
 
 pub taken : (key message : List ℕ) {number : ℕ} {bytes : List ℕ} → length key ≡ 32 → length message ≤ 8192 → number ≡ numberOf Allow
-    → bytes ≡ bytesOf (treeOf (wordsOf 8 key) 3 message 0 rootFlag)
+    → bytes ≡ bytesOfWords (treeOf (wordsOf 8 key) 3 message 0 rootFlag)
     → _≡_ {A = Hashed} (record { answer = number; bytes = bytes }) (hashedOf key message)
 unfolding hashedOf
 taken key message h g a b =
     let n = length message in
     let t = any-height (wordsOf 8 key) message 0 rootFlag 3 n g (omega (arith, enough n)) in
-    rw (eq-eqb (length key) 32 h, le-ltb _ _ g, a, b ∙ ap bytesOf t ∙ sym (hash-is Here key message))
+    rw (eq-eqb (length key) 32 h, le-ltb _ _ g, a, b ∙ ap bytesOfWords t ∙ sym (hash-is Here key message))

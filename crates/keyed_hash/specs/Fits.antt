@@ -1,4 +1,4 @@
--- What the recursion over the tree keeps: at most eight chunks in all, and room for the flags.
+-- Inner. What the recursion over the tree keeps: at most eight chunks in all, and room for the flags.
 use Prim.Native.Nat.{ℕ, _+_, _^_, _≤_}
 use Rattle.keyed_hash.specs.Tree.{fullOf}
 

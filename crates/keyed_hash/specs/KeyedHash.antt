@@ -1,6 +1,6 @@
--- The keyed hash that the token work knows, and what it may know of it. `keyedHash` is shut: a crate above cannot unfold it, and
--- has of it the functions' promises and `hash-length`, `hash-bytes` and `cut-anywhere`. How it is made is the law `hash-is`, which
--- asks for a value of `Inside`, a type of this crate's code that no other crate can name.
+-- Meaning. The keyed hash that the token work knows, and what it may know of it. `keyedHash` is shut: a crate above cannot unfold it, and
+-- has of it the functions' promises and `hash-length`, `hash-bytes` and `cut-anywhere`. How it is made is the law `hash-is`, which asks for
+-- a value of `Inside`, a type of this crate's code that no other crate can name.
 use mathlib.Core.Path.{_≡_, refl, ap, _∙_}
 use mathlib.Core.List.{List, _++_}
 use Prim.Native.Nat.{ℕ, _<_}
@@ -15,15 +15,15 @@ use Rattle.keyed_hash.specs.declared.Hashed.{Hashed}
 use Rattle.keyed_hash.specs.declared.Inside.{Inside}
 use Rattle.keyed_hash.specs.declared.Inside.the-variants.{Here}
 use Rattle.hash_chunks.specs.Chunks.{rootFlag, wordsOf}
-use Rattle.keyed_hash.specs.Tree.{bytesOf, treeOf}
+use Rattle.keyed_hash.specs.Tree.{bytesOfWords, treeOf}
 
--- BLAKE3 in keyed mode, 32 bytes out, of a message of any length: n bytes are never more than 2^n chunks
+-- 01, "Chain": "MAC is BLAKE3 keyed mode, 32 bytes out." Of a message of any length: n bytes are never more than 2^n chunks
 pub keyedHash : List ℕ → List ℕ → List ℕ
-keyedHash key message = bytesOf (treeOf (wordsOf 8 key) (length message) message 0 rootFlag)
+keyedHash key message = bytesOfWords (treeOf (wordsOf 8 key) (length message) message 0 rootFlag)
 
 -- what the hash is, for this crate's own proofs alone
 pub hash-is : Inside → (key message : List ℕ)
-    → keyedHash key message ≡ bytesOf (treeOf (wordsOf 8 key) (length message) message 0 rootFlag)
+    → keyedHash key message ≡ bytesOfWords (treeOf (wordsOf 8 key) (length message) message 0 rootFlag)
 unfolding keyedHash
 hash-is inside key message = refl
 

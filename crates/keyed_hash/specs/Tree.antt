@@ -1,5 +1,5 @@
--- BLAKE3's keyed mode on lists of bytes, as the BLAKE3 paper has it in sections 2.1 ("Tree structure"), 2.3 ("Modes")
--- and 2.6 (the root); document 01, "Chain". Chunks and parents are in Chunks of `hash_chunks`.
+-- Meaning. BLAKE3's keyed mode on lists of bytes, as the BLAKE3 paper has it in sections 2.1 ("Tree structure"), 2.3 ("Modes") and 2.6 (the
+-- root); document 01, "Chain". Chunks and parents are in Chunks of `hash_chunks`.
 use mathlib.Core.List.{List}
 use Prim.Native.Nat.{ℕ, zero, suc, _+_, _*_, _/_, _%_, _^_}
 use lib.ListN.{length, take, drop, getD}
@@ -11,8 +11,8 @@ use Rattle.hash_chunks.specs.Chunks.{chunkOf, parentOf}
 abbrev pub byteOf : ℕ → ℕ → ℕ
 byteOf x k = x / 256 ^ k % 256
 
-abbrev pub bytesOf : List ℕ → List ℕ
-bytesOf w = tab 32 (λ i. byteOf (getD w (i / 4) 0) (i % 4))
+abbrev pub bytesOfWords : List ℕ → List ℕ
+bytesOfWords w = tab 32 (λ i. byteOf (getD w (i / 4) 0) (i % 4))
 
 -- the bytes of 2^h whole chunks
 abbrev pub fullOf : ℕ → ℕ

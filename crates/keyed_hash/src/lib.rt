@@ -5,7 +5,7 @@ ghost use mathlib.Core.Path.{_≡_};
 ghost use mathlib.Core.List.{_++_};
 ghost use Prim.Native.Nat.{_<_, _+_, _^_};
 ghost use lib.ListN.{length};
-ghost use Rattle.keyed_hash.specs.Tree.{bytesOf, treeOf};
+ghost use Rattle.keyed_hash.specs.Tree.{bytesOfWords, treeOf};
 ghost use Rattle.keyed_hash.specs.KeyedHash.{hashedOf, refusedHash};
 ghost use Rattle.keyed_hash.specs.Fits.{Fit};
 
@@ -60,7 +60,7 @@ fn tree(key: [u32; 8], head: &[u8], body: &[u8], counter: u64, h: u32, root: u32
 
 // Four stores a turn: the compiler makes one of them.
 fn spread(w: [u32; 8]) -> [u8; 32]
-    ensures { λ r. ⌜ r ≡ bytesOf w ⌝ }
+    ensures { λ r. ⌜ r ≡ bytesOfWords w ⌝ }
 {
     let mut out = [0u8; 32];
     let mut i: usize = 0;

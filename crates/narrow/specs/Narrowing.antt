@@ -1,11 +1,13 @@
--- Narrow, check by check. Document 01, "Numbers and names": "Narrow: 1, text length, 3, reading, 7, 8, the caveat's reading as 31, 32,
--- 33 for 4, 5, 6, then 34, 35, 36." What stands behind 8 is the child's: see Child of `narrow_child`.
+-- Reading. Need not be believed: the demands' theorems fix it. Narrow, check by check. Document 01, "Numbers and names": "Narrow: 1, text
+-- length, 3, reading, 7, 8, the caveat's reading as 31, 32, 33 for 4, 5, 6, then 34, 35, 36." What stands behind 8 is the child's: see
+-- Child of `narrow_child`.
 use mathlib.Core.List.{List}
 use Prim.Native.Nat.{ℕ}
 use lib.Dec.{eqb, ltb}
 use lib.ListN.{length}
 use Rattle.basis.specs.Basis.{pick, between}
 use Rattle.basis.specs.Same.{sameOf}
+use Rattle.basis.specs.Limits.{keyLength, textMost, tokenMost}
 use Rattle.text_reading.specs.Reading.{judgedOf, bytesOf, decodedOf}
 use Rattle.text_reading.specs.declared.Decoded.{Decoded}
 use Rattle.text_reading.specs.declared.Decoded.the-variants.{Bytes, Bad as NoText, Short}
@@ -31,7 +33,7 @@ tagNarrowed key s p caveat =
 
 -- 7
 unfoldable pub keyNarrowed : List ℕ → List ℕ → TokenAt → List ℕ → Decision
-keyNarrowed key s p caveat = pick (eqb (length key) 32) (tagNarrowed key s p caveat) (refused 7)
+keyNarrowed key s p caveat = pick (eqb (length key) keyLength) (tagNarrowed key s p caveat) (refused 7)
 
 -- 4 to 6
 unfoldable pub tokenNarrowed : List ℕ → List ℕ → List ℕ → TokenParts → Decision
@@ -49,7 +51,7 @@ decodedNarrowed table text caveat (Bytes n) = bytesNarrowed table (bytesOf text)
 
 -- "text length"
 unfoldable pub textNarrowed : List ℕ → List ℕ → List ℕ → Decision
-textNarrowed table text caveat = pick (ltb 5462 (length text)) (refused 5) (decodedNarrowed table text caveat (decodedOf (judgedOf text) 4096))
+textNarrowed table text caveat = pick (ltb textMost (length text)) (refused 5) (decodedNarrowed table text caveat (decodedOf (judgedOf text) tokenMost))
 
 -- 1
 unfoldable pub narrowOf : List ℕ → List ℕ → List ℕ → Decision

@@ -1,5 +1,6 @@
 // Narrow: a child with one caveat more, of a parent that is read, found and rightly tagged. Any bytes may come; they
 // are judged in document 01's order, and the room gets only what is handed out whole.
+use basis::limits;
 use outcome::Outcome;
 use text_reading::Decoded;
 use token::TokenAt;
@@ -36,7 +37,7 @@ fn narrow_bytes(table: &[u8], s: &[u8], caveat: &[u8], room: &mut [u8]) -> Outco
             let tid = token.tid;
             let kid = token.kid;
             let key = records_table::find(table, basis::lend(s, tid), basis::lend(s, kid));
-            if key.len() == 32 {
+            if key.len() == limits::KEY_LENGTH {
                 return narrow_with(key, s, token, caveat, room);
             }
             outcome::refusal(7)
@@ -47,7 +48,7 @@ fn narrow_bytes(table: &[u8], s: &[u8], caveat: &[u8], room: &mut [u8]) -> Outco
 fn narrow_text(table: &[u8], text: &[u8], caveat: &[u8], room: &mut [u8]) -> Outcome
     ensures { λ r. ⌜ Carried (textNarrowed (now (table .entry)) (now (text .entry)) (now (caveat .entry))) (now (room .entry)) r (now (room .exit)) ⌝ }
 {
-    if 5462 < text.len() {
+    if limits::TEXT_MOST < text.len() {
         return outcome::refusal(5);
     }
     let mut bytes: [u8; 4096] = [0; 4096];

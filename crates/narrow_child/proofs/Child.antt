@@ -10,7 +10,8 @@ use lib.ListN.{length, length-append}
 use Rattle.basis.specs.Basis.{pick, between, Written}
 use Rattle.text_writing.specs.Base64url.{base64url}
 use Rattle.cbor_heads.proofs.HeadLengths.{head-one}
-use Rattle.hash_chain.specs.Chain.{nextLink, NextOf}
+use Rattle.hash_chain.specs.Chain.{nextLink}
+use Rattle.hash_chain.specs.Inner.{NextOf}
 use Rattle.token_caveat.specs.Reading.{caveatOf}
 use Rattle.token_caveat_values.specs.declared.CaveatAt.{CaveatAt}
 use Rattle.token_caveat_values.specs.declared.CaveatParts.the-variants.{Of, Bad}

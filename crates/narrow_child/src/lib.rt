@@ -1,5 +1,6 @@
 // The child of a token that may be narrowed: the added caveat is read, and the parent's parts are written again with
 // it behind their caveats and the next link as their tag.
+use basis::limits;
 use outcome::Outcome;
 use token::TokenAt;
 use token_caveat_values::CaveatParts;
@@ -27,10 +28,10 @@ fn write_child(
     let scope = parent.scope;
     let kid = parent.kid;
     let tid = parent.tid;
-    if 64 <= count {
+    if limits::CAVEATS_MOST <= count {
         return outcome::refusal(34);
     }
-    if 4096 < caveat.len() {
+    if limits::TOKEN_MOST < caveat.len() {
         return outcome::refusal(35);
     }
     let tag = hash_chain::next_link(key, link, caveat);

@@ -1,4 +1,4 @@
--- What the readers of scopes, caveats and tokens say, as a number of the answer list and ten more, so that a host test in another
+-- Meaning. What the readers of scopes, caveats and tokens say, as a number of the answer list and ten more, so that a host test in another
 -- language can compare them with its own. Numbers without a meaning are 0.
 use mathlib.Core.Bool.{Bool, true, false}
 use mathlib.Core.List.{List, [], _∷_}

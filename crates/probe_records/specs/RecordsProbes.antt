@@ -1,4 +1,4 @@
--- What the readers of tables and requests say, as numbers, so that a host test in another language can compare them with its own.
+-- Meaning. What the readers of tables and requests say, as numbers, so that a host test in another language can compare them with its own.
 -- Numbers without a meaning are 0.
 use mathlib.Core.Bool.{Bool, true, false}
 use mathlib.Core.List.{List, [], _∷_}
@@ -29,12 +29,12 @@ rateProbe NoRate = told 0 0 0
 rateProbe (RateIs per-s burst) = told 1 per-s burst
 
 -- of a peer and a digest, whose lengths are known, only where they begin is told
-abbrev pub numbersOf : RequestAt → ℕ → Told → Told → Told → Told → List ℕ
-numbersOf p on x y z w =
+abbrev pub numbersTold : RequestAt → ℕ → Told → Told → Told → Told → List ℕ
+numbersTold p on x y z w =
     p .now ∷ p .size ∷ p .skew ∷ on ∷ x .there ∷ x .a ∷ y .there ∷ y .a ∷ z .there ∷ z .a ∷ z .b
     ∷ p .method .from ∷ p .method .to ∷ p .path .from ∷ p .path .to ∷ p .tenant .from ∷ p .tenant .to ∷ w .there ∷ w .a ∷ w .b ∷ []
 
 abbrev pub requestProbe : RequestParts → Listed
 requestProbe Bad = record { kind = 2; numbers = 0 ∷ 0 ∷ 0 ∷ 0 ∷ 0 ∷ 0 ∷ 0 ∷ 0 ∷ 0 ∷ 0 ∷ 0 ∷ 0 ∷ 0 ∷ 0 ∷ 0 ∷ 0 ∷ 0 ∷ 0 ∷ 0 ∷ 0 ∷ [] }
 requestProbe (Of p) =
-    record { kind = 0; numbers = numbersOf p (bitOf (p .amnesia)) (partProbe (p .peer)) (partProbe (p .digest)) (rateProbe (p .rate)) (partProbe (p .audience)) }
+    record { kind = 0; numbers = numbersTold p (bitOf (p .amnesia)) (partProbe (p .peer)) (partProbe (p .digest)) (rateProbe (p .rate)) (partProbe (p .audience)) }

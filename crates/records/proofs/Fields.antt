@@ -15,7 +15,8 @@ use Rattle.cbor_strings.specs.Strings.{contentOf}
 use Rattle.cbor_strings.specs.declared.Class.{Class}
 use Rattle.cbor_keys.specs.Maps.{GoodText}
 use Rattle.cbor_keys.proofs.StepLaws.{must-take, must-pass}
-use Rattle.records.specs.Records.{little, counted, recordBytes, runAt, afterRun, afterNumber, afterRecord, littleAt, contentThen, lengthThen, textAt, recordBody, recordKind, recordThen, readRecord}
+use Rattle.records.specs.Records.{little, counted, recordBytes}
+use Rattle.records.specs.Reading.{runAt, afterRun, afterNumber, afterRecord, littleAt, contentThen, lengthThen, textAt, recordBody, recordKind, recordThen, readRecord}
 use Rattle.records.specs.declared.Run.{Run}
 use Rattle.records.specs.declared.Run.the-variants.{Of as Found, Bad as NoRun}
 use Rattle.records.specs.declared.Number.{Number}

@@ -4,7 +4,7 @@ use mathlib.Core.List.{List}
 use Prim.Native.Nat.{ℕ}
 use Rattle.basis.proofs.OneAnswer.{told}
 use Rattle.cbor_strings.specs.declared.Class.{Class}
-use Rattle.records.specs.Records.{runAt, littleAt, textAt, readRecord}
+use Rattle.records.specs.Reading.{runAt, littleAt, textAt, readRecord}
 use Rattle.records.specs.declared.Run.{Run}
 use Rattle.records.specs.declared.Number.{Number}
 use Rattle.records.specs.declared.RecordParts.{RecordParts}

@@ -11,7 +11,8 @@ use lib.Seq.{drop-drop, length-take-le}
 use Rattle.basis.specs.Basis.{pick, fromTo, between, IsBytes}
 use Rattle.basis.specs.declared.Span.{Span}
 use Rattle.basis.proofs.Parts.{lies, begins-alike, ends-alike}
-use Rattle.records.specs.Records.{little, littleOf, runAt, afterRun, littleThen, littleAt}
+use Rattle.records.specs.Records.{little, littleOf}
+use Rattle.records.specs.Reading.{runAt, afterRun, littleThen, littleAt}
 use Rattle.records.specs.declared.Run.{Run}
 use Rattle.records.specs.declared.Run.the-variants.{Of as Found, Bad as NoRun}
 use Rattle.records.specs.declared.Number.the-variants.{Of as Counted, Bad as NoNumber}

@@ -5,7 +5,8 @@ use cbor_strings::Class;
 ghost use mathlib.Core.Path.{_≡_};
 ghost use Prim.Native.Nat.{_≤_};
 ghost use lib.ListN.{length};
-ghost use Rattle.records.specs.Records.{littleOf, runAt, littleAt, textAt, readRecord};
+ghost use Rattle.records.specs.Records.{littleOf};
+ghost use Rattle.records.specs.Reading.{runAt, littleAt, textAt, readRecord};
 
 // Some bytes, by where they lie.
 pub enum Run {

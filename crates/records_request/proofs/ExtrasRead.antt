@@ -18,11 +18,12 @@ use Rattle.cbor_strings.specs.Strings.{contentOf}
 use Rattle.cbor_strings.specs.declared.Class.the-variants.{Hex}
 use Rattle.cbor_keys.specs.Maps.{present, IfPresent, GoodText}
 use Rattle.cbor_keys.proofs.StepLaws.{must-take}
-use Rattle.records.specs.Records.{little, runAt, littleAt, afterRun, afterNumber}
+use Rattle.records.specs.Records.{little}
+use Rattle.records.specs.Reading.{runAt, littleAt, afterRun, afterNumber}
 use Rattle.records.proofs.Runs.{run-long, run-read, number-read}
 use Rattle.records.proofs.Fields.{run-went, number-went}
 use Rattle.records_request.specs.Requests.{PerSecond, partIf, bare, rateBytes, FourBytes, GoodRate}
-use Rattle.records_request.specs.Reading.{afterPart, afterRate, foundPart, peerAt, digestThen, digestAt, burstThen, perThen, rateAt, extrasThen, digestNext, peerNext, extrasAt}
+use Rattle.records_request.specs.Reading.{afterPart, afterRate, foundPart, peerAt, digestFound, digestAt, burstNext, perNext, rateAt, extrasThen, digestNext, peerNext, extrasAt}
 use Rattle.records_request.specs.declared.PartStep.{PartStep}
 use Rattle.records_request.specs.declared.PartStep.the-variants.{Of as PartOf, Bad as BadPart}
 use Rattle.records_request.specs.declared.RateAt.{RateAt}
@@ -71,14 +72,14 @@ peer-read s flags at {part} {next} = by (eqb (flags / 2 % 2) 0) refl
         is-there FourBytes bare (flags / 2 % 2) s at (flag-set (flags / 2) q) (between s (w .part)) (run-long s at 4 (w .was)) (w .part) refl (run-read s at 4 (w .was)) (w .goes)
 
 digest-read : (s : List ℕ) (flags at : ℕ) {part : Part} {next : ℕ} → digestAt s flags at ≡ PartOf part next → IsPart (GoodText Hex 64 64) bare (flags / 8 % 2) s at part next
-unfolding digestAt digestThen
+unfolding digestAt digestFound
 digest-read s flags at {part} {next} = by (eqb (flags / 8 % 2) 0) refl
   where
-    by : (t : Bool) → eqb (flags / 8 % 2) 0 ≡ t → pick t (PartOf Absent at) (afterRun BadPart (digestThen s) (runAt s at 64)) ≡ PartOf part next
+    by : (t : Bool) → eqb (flags / 8 % 2) 0 ≡ t → pick t (PartOf Absent at) (afterRun BadPart (digestFound s) (runAt s at 64)) ≡ PartOf part next
         → IsPart (GoodText Hex 64 64) bare (flags / 8 % 2) s at part next
     by true q e = not-there (GoodText Hex 64 64) bare (flags / 8 % 2) s at (eqb-true (flags / 8 % 2) 0 q) e
     by false q e =
-        let w = run-went (bad-part part next) (digestThen s) (runAt s at 64) e in
+        let w = run-went (bad-part part next) (digestFound s) (runAt s at 64) e in
         let x = between s (w .part) in
         let c = must-take (foundPart (w .part)) BadPart (bad-part part next) (contentOf Hex x) (w .goes) in
         let l = run-long s at 64 (w .was) in
@@ -93,21 +94,21 @@ record IsRate (s : List ℕ) (flags at : ℕ) (part : RateAt) (next : ℕ) : Typ
   pub there : drop at s ≡ partIf rateBytes tree ++ drop next s
 
 rate-read : (s : List ℕ) → IsBytes s → (flags at : ℕ) {part : RateAt} {next : ℕ} → rateAt s flags at ≡ RateOf part next → IsRate s flags at part next
-unfolding rateAt perThen rateBytes
+unfolding rateAt perNext rateBytes
 rate-read s b flags at {part} {next} = by (eqb (flags / 16 % 2) 0) refl
   where
     never : BadRate ≡ RateOf part next → ⊥
     never e = let z : _≡_ {A = ℕ} 0 1 = cc in omega arith
 
-    by : (t : Bool) → eqb (flags / 16 % 2) 0 ≡ t → pick t (RateOf NoRate at) (afterNumber BadRate (perThen s) (littleAt s at 4)) ≡ RateOf part next
+    by : (t : Bool) → eqb (flags / 16 % 2) 0 ≡ t → pick t (RateOf NoRate at) (afterNumber BadRate (perNext s) (littleAt s at 4)) ≡ RateOf part next
         → IsRate s flags at part next
     by true q e =
         let pe : NoRate ≡ part = cc in
         let ne : at ≡ next = cc in
         record { tree = none; good = tt; flagged = eqb-true (flags / 16 % 2) 0 q; held = pe; there = ap (λ (i : ℕ). drop i s) ne }
     by false q e =
-        let v = number-went never (perThen s) (littleAt s at 4) e in
-        let w = number-went never (burstThen (v .n)) (littleAt s (v .next) 4) (v .goes) in
+        let v = number-went never (perNext s) (littleAt s at 4) e in
+        let w = number-went never (burstNext (v .n)) (littleAt s (v .next) 4) (v .goes) in
         let x = number-read s b at 4 (v .was) in
         let y = number-read s b (v .next) 4 (w .was) in
         let g = w .goes in

@@ -13,12 +13,13 @@ use Rattle.basis.proofs.Parts.{lies}
 use Rattle.basis.proofs.Held.{PartHeld}
 use Rattle.cbor_strings.specs.declared.Class.the-variants.{Hex}
 use Rattle.cbor_keys.specs.Maps.{present, IfPresent, GoodText}
-use Rattle.records.specs.Records.{little, runAt}
+use Rattle.records.specs.Records.{little}
+use Rattle.records.specs.Reading.{runAt}
 use Rattle.records.specs.declared.Run.the-variants.{Of as Found}
 use Rattle.records.proofs.Littles.{little-length}
 use Rattle.records.proofs.Runs.{run-written, number-written}
 use Rattle.records_request.specs.Requests.{PerSecond, partIf, bare, rateBytes, FourBytes, GoodRate}
-use Rattle.records_request.specs.Reading.{peerAt, digestThen, digestAt, perThen, rateAt, digestNext, peerNext, extrasAt}
+use Rattle.records_request.specs.Reading.{peerAt, digestFound, digestAt, perNext, rateAt, digestNext, peerNext, extrasAt}
 use Rattle.records_request.specs.declared.PartStep.the-variants.{Of as PartOf}
 use Rattle.records_request.specs.declared.RateAt.the-variants.{Absent as NoRate, Of as RateIs}
 use Rattle.records_request.specs.declared.RateStep.the-variants.{Of as RateOf}
@@ -43,7 +44,7 @@ module _ (s t : List ℕ) (flags at : ℕ) where
 
   digest-written : (o : Option (List ℕ)) → IfPresent (GoodText Hex 64 64) o → flags / 8 % 2 ≡ present o → Behind s (partIf bare o ++ t) at
       → (digestAt s flags at ≡ PartOf (barePart o at) (at + length (partIf bare o))) × PartHeld s o (barePart o at)
-  unfolding digestAt digestThen
+  unfolding digestAt digestFound
   digest-written none g f w = (rw f (ap (PartOf Absent) (sym (add-zero at))), tt)
   digest-written (some d) g f w =
       let n : length d ≡ 64 = omega (arith, g .enough, g .most) in
@@ -53,7 +54,7 @@ module _ (s t : List ℕ) (flags at : ℕ) where
 
   rate-written : (o : Option PerSecond) → IfPresent GoodRate o → flags / 16 % 2 ≡ present o → Behind s (partIf rateBytes o ++ t) at
       → rateAt s flags at ≡ RateOf (rateOf o) (at + length (partIf rateBytes o))
-  unfolding rateAt perThen rateBytes
+  unfolding rateAt perNext rateBytes
   rate-written none g f w = rw f (ap (RateOf NoRate) (sym (add-zero at)))
   rate-written (some r) g f w =
       let x = little 4 (r .per-s) in

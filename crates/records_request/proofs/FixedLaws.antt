@@ -9,7 +9,8 @@ use lib.ListN.{length, drop}
 use Rattle.basis.specs.Basis.{pick, fromTo, between, IsBytes}
 use Rattle.basis.proofs.Parts.{past, lies, on}
 use Rattle.cbor_keys.proofs.StepLaws.{must-pass}
-use Rattle.records.specs.Records.{little, counted, littleAt}
+use Rattle.records.specs.Records.{little, counted}
+use Rattle.records.specs.Reading.{littleAt}
 use Rattle.records.proofs.Littles.{little-length}
 use Rattle.records.proofs.Runs.{ends-inside, number-written, IsNumber, number-read}
 use Rattle.records.proofs.Fields.{number-went}

@@ -7,7 +7,7 @@ use native.Mathlib.Omega.{arith}
 use lib.Dec.{eqb}
 use Rattle.basis.specs.Basis.{IsBytes}
 use Rattle.records_request.specs.Requests.{Request, flagsOf, encodeRequest, GoodRequest}
-use Rattle.records_request.specs.Reading.{afterFixed, afterExtras, afterStrings, fixedAt, extrasAt, stringsAt, allOf, stringsThen, extrasNext, fixedThen, requestOf}
+use Rattle.records_request.specs.Reading.{afterFixed, afterExtras, afterStrings, fixedAt, extrasAt, stringsAt, requestWith, stringsThen, extrasNext, fixedThen, requestOf}
 use Rattle.records_request.specs.declared.Numbers.{Numbers}
 use Rattle.records_request.specs.declared.Fixed.{Fixed}
 use Rattle.records_request.specs.declared.Fixed.the-variants.{Of as FixedOf, Bad as NoFixed}
@@ -35,7 +35,7 @@ pub record IsRequest (s : List ℕ) (parts : RequestAt) : Type 0 where
 
 module _ (s : List ℕ) (b : IsBytes s) where
   found : (n : Numbers) (i : ℕ) (extras : ExtrasAt) (j : ℕ) (strings : StringsAt) → IsFixed s n i → AreExtras s (n .flags) i extras j
-      → AreStrings s (n .flags) j strings → IsRequest s (allOf n extras strings)
+      → AreStrings s (n .flags) j strings → IsRequest s (requestWith n extras strings)
   unfolding encodeRequest
   found n i extras j strings w x y =
       let f = n .flags in

@@ -5,7 +5,7 @@ use Prim.Native.Nat.{ℕ, _%_}
 use native.Mathlib.Omega.{arith}
 use Rattle.records.specs.Records.{counted}
 use Rattle.records_request.specs.Requests.{Request, partIf, bare, rateBytes, flagsOf, encodeRequest, GoodRequest}
-use Rattle.records_request.specs.Reading.{numbersOf, allOf, extrasNext, fixedThen, requestOf}
+use Rattle.records_request.specs.Reading.{numbersOf, requestWith, extrasNext, fixedThen, requestOf}
 use Rattle.records_request.specs.declared.RequestAt.{RequestAt}
 use Rattle.records_request.specs.declared.RequestParts.the-variants.{Of}
 use Rattle.records_request.proofs.Holds.{Holds}
@@ -34,7 +34,7 @@ request-written x g s e =
     let c =
     strings-written s (flagsOf x) p (x .method) (x .path) (x .tenant) (x .audience) (g .good-method) (g .good-path) (g .good-tenant) (g .good-audience) (v .audience-bit) (b .behind) in
     record {
-      parts = allOf (numbersOf (x .now) (x .size) (x .skew) (flagsOf x)) (b .extras) (c .strings);
+      parts = requestWith (numbersOf (x .now) (x .size) (x .skew) (flagsOf x)) (b .extras) (c .strings);
       answer = rw (a .0, b .answer, c .answer);
       holds = record {
         now-held = refl;

@@ -17,10 +17,11 @@ use Rattle.basis.proofs.Held.{PartHeld}
 use Rattle.cbor_strings.specs.declared.Class.the-variants.{Upper, Path, Name, Printable}
 use Rattle.cbor_keys.specs.Maps.{present, IfPresent, GoodText}
 use Rattle.cbor_keys.proofs.StepLaws.{must-pass}
-use Rattle.records.specs.Records.{counted, textAt, afterRun}
+use Rattle.records.specs.Records.{counted}
+use Rattle.records.specs.Reading.{textAt, afterRun}
 use Rattle.records.proofs.Fields.{run-went, IsText, text-read}
 use Rattle.records_request.specs.Requests.{partIf}
-use Rattle.records_request.specs.Reading.{afterPart, foundPart, audienceAt, stringsOf, endThen, tenantThen, pathThen, methodThen, stringsAt}
+use Rattle.records_request.specs.Reading.{afterPart, foundPart, audienceAt, stringsOf, stringsEnd, tenantThen, pathThen, methodNext, stringsAt}
 use Rattle.records_request.specs.declared.PartStep.{PartStep}
 use Rattle.records_request.specs.declared.PartStep.the-variants.{Of as PartOf, Bad as BadPart}
 use Rattle.records_request.specs.declared.StringsAt.{StringsAt}
@@ -93,8 +94,8 @@ module _ (s : List ℕ) (b : IsBytes s) (flags at : ℕ) where
     same-strings e = cc
 
     from-audience : (m p n : Span) → IsText 2 Upper 1 16 s at m → IsText 2 Path 1 1024 s (m .to) p → IsText 2 Name 1 64 s (p .to) n
-        → (a : PartStep) → audienceAt s flags (n .to) ≡ a → afterPart Bad (endThen s m p n) a ≡ Of strings → AreStrings s flags at strings
-    unfolding endThen
+        → (a : PartStep) → audienceAt s flags (n .to) ≡ a → afterPart Bad (stringsEnd s m p n) a ≡ Of strings → AreStrings s flags at strings
+    unfolding stringsEnd
     from-audience m p n w x y BadPart q e = let z = never e in elim z [ ]
     from-audience m p n w x y (PartOf a next) q e =
         let l = must-pass Bad (Of (stringsOf m p n a)) never (ltb next (length s)) e in
@@ -102,9 +103,9 @@ module _ (s : List ℕ) (b : IsBytes s) (flags at : ℕ) where
         (found m p n a next w x y (audience-read s b flags (n .to) q) (drop-of-length-le s (ltb-false next (length s) (l .0))))
 
     pub strings-read : stringsAt s flags at ≡ Of strings → AreStrings s flags at strings
-    unfolding stringsAt methodThen pathThen tenantThen
+    unfolding stringsAt methodNext pathThen tenantThen
     strings-read e =
-        let w = run-went never (methodThen s flags) (textAt s 2 Upper 1 16 at) e in
+        let w = run-went never (methodNext s flags) (textAt s 2 Upper 1 16 at) e in
         let x = run-went never (pathThen s flags (w .part)) (textAt s 2 Path 1 1024 (w .part .to)) (w .goes) in
         let y = run-went never (tenantThen s flags (w .part) (x .part)) (textAt s 2 Name 1 64 (x .part .to)) (x .goes) in
         from-audience (w .part) (x .part) (y .part)

@@ -16,7 +16,7 @@ use Rattle.records.specs.Records.{little, counted}
 use Rattle.records.proofs.Littles.{little-length}
 use Rattle.records.proofs.Fields.{text-written}
 use Rattle.records_request.specs.Requests.{partIf}
-use Rattle.records_request.specs.Reading.{audienceAt, stringsOf, endThen, tenantThen, pathThen, methodThen, stringsAt}
+use Rattle.records_request.specs.Reading.{audienceAt, stringsOf, stringsEnd, tenantThen, pathThen, methodNext, stringsAt}
 use Rattle.records_request.specs.declared.PartStep.the-variants.{Of as PartOf}
 use Rattle.records_request.specs.declared.StringsAt.{StringsAt}
 use Rattle.records_request.specs.declared.Strings.the-variants.{Of}
@@ -59,7 +59,7 @@ module _ (s : List ℕ) (flags at : ℕ) (m p n : List ℕ) (o : Option (List �
 
   pub strings-written : GoodText Upper 1 16 m → GoodText Path 1 1024 p → GoodText Name 1 64 n → IfPresent (GoodText Printable 1 128) o → flags / 4 % 2 ≡ present o
       → Behind s (counted 2 m ++ (counted 2 p ++ (counted 2 n ++ partIf (counted 2) o))) at → StringsWritten
-  unfolding stringsAt methodThen pathThen tenantThen endThen
+  unfolding stringsAt methodNext pathThen tenantThen stringsEnd
   strings-written gm gp gn go f w =
       let t3 = partIf (counted 2) o in
       let t2 = counted 2 n ++ t3 in

@@ -1,5 +1,6 @@
--- The one reading of a request body, part by part in document 01's order: "now (8), body size (8), skew (2, at most 300), flags (1 ..);
--- then, if flagged, peer .., digest .., per_s and burst ..; then method .., path .., tenant .. and, if flagged, audience". Any defect is ctx.bad.
+-- Reading. Need not be believed: the laws fix it both ways (`request-written`, `request-read`), since it has one defect. The one reading of
+-- a request body, part by part in document 01's order: "now (8), body size (8), skew (2, at most 300), flags (1 ..); then, if flagged, peer
+-- .., digest .., per_s and burst ..; then method .., path .., tenant .. and, if flagged, audience". Any defect is ctx.bad.
 use mathlib.Core.List.{List}
 use Prim.Native.Nat.{ℕ, _/_, _%_}
 use lib.Dec.{eqb, ltb}
@@ -8,9 +9,10 @@ use Rattle.basis.specs.Basis.{pick, between}
 use Rattle.basis.specs.declared.Span.{Span}
 use Rattle.basis.specs.declared.Part.{Part}
 use Rattle.basis.specs.declared.Part.the-variants.{Absent, At}
+use Rattle.basis.specs.Limits.{skewMost, digestLength, audMost, nameMost, methodMost, requestPathMost}
 use Rattle.cbor_strings.specs.Strings.{contentOf}
 use Rattle.cbor_strings.specs.declared.Class.the-variants.{Hex, Upper, Path, Name, Printable}
-use Rattle.records.specs.Records.{runAt, littleAt, textAt, afterRun, afterNumber}
+use Rattle.records.specs.Reading.{runAt, littleAt, textAt, afterRun, afterNumber}
 use Rattle.records_request.specs.declared.Numbers.{Numbers}
 use Rattle.records_request.specs.declared.Fixed.{Fixed}
 use Rattle.records_request.specs.declared.Fixed.the-variants.{Of as FixedOf, Bad as NoFixed}
@@ -56,7 +58,7 @@ abbrev pub numbersOf : ℕ → ℕ → ℕ → ℕ → Numbers
 numbersOf now size skew flags = record { now = now; size = size; skew = skew; flags = flags }
 
 unfoldable pub flagsThen : ℕ → ℕ → ℕ → ℕ → ℕ → Fixed
-flagsThen now size skew flags next = pick (ltb 300 skew) NoFixed (pick (ltb 31 flags) NoFixed (FixedOf (numbersOf now size skew flags) next))
+flagsThen now size skew flags next = pick (ltb skewMost skew) NoFixed (pick (ltb 31 flags) NoFixed (FixedOf (numbersOf now size skew flags) next))
 
 unfoldable pub skewThen : List ℕ → ℕ → ℕ → ℕ → ℕ → Fixed
 skewThen s now size skew next = afterNumber NoFixed (flagsThen now size skew) (littleAt s next 1)
@@ -77,20 +79,20 @@ foundPart part = PartOf (At part) (part .to)
 unfoldable pub peerAt : List ℕ → ℕ → ℕ → PartStep
 peerAt s flags at = pick (eqb (flags / 2 % 2) 0) (PartOf Absent at) (afterRun BadPart foundPart (runAt s at 4))
 
-unfoldable pub digestThen : List ℕ → Span → PartStep
-digestThen s part = pick (contentOf Hex (between s part)) (foundPart part) BadPart
+unfoldable pub digestFound : List ℕ → Span → PartStep
+digestFound s part = pick (contentOf Hex (between s part)) (foundPart part) BadPart
 
 unfoldable pub digestAt : List ℕ → ℕ → ℕ → PartStep
-digestAt s flags at = pick (eqb (flags / 8 % 2) 0) (PartOf Absent at) (afterRun BadPart (digestThen s) (runAt s at 64))
+digestAt s flags at = pick (eqb (flags / 8 % 2) 0) (PartOf Absent at) (afterRun BadPart (digestFound s) (runAt s at digestLength))
 
-abbrev pub burstThen : ℕ → ℕ → ℕ → RateStep
-burstThen per-s burst next = RateOf (RateIs per-s burst) next
+abbrev pub burstNext : ℕ → ℕ → ℕ → RateStep
+burstNext per-s burst next = RateOf (RateIs per-s burst) next
 
-unfoldable pub perThen : List ℕ → ℕ → ℕ → RateStep
-perThen s per-s next = afterNumber BadRate (burstThen per-s) (littleAt s next 4)
+unfoldable pub perNext : List ℕ → ℕ → ℕ → RateStep
+perNext s per-s next = afterNumber BadRate (burstNext per-s) (littleAt s next 4)
 
 unfoldable pub rateAt : List ℕ → ℕ → ℕ → RateStep
-rateAt s flags at = pick (eqb (flags / 16 % 2) 0) (RateOf NoRate at) (afterNumber BadRate (perThen s) (littleAt s at 4))
+rateAt s flags at = pick (eqb (flags / 16 % 2) 0) (RateOf NoRate at) (afterNumber BadRate (perNext s) (littleAt s at 4))
 
 abbrev pub extrasThen : Part → Part → RateAt → ℕ → Extras
 extrasThen peer digest rate next = ExtrasOf (record { peer = peer; digest = digest; rate = rate }) next
@@ -105,30 +107,30 @@ unfoldable pub extrasAt : List ℕ → ℕ → ℕ → Extras
 extrasAt s flags at = afterPart NoExtras (peerNext s flags) (peerAt s flags at)
 
 unfoldable pub audienceAt : List ℕ → ℕ → ℕ → PartStep
-audienceAt s flags at = pick (eqb (flags / 4 % 2) 0) (PartOf Absent at) (afterRun BadPart foundPart (textAt s 2 Printable 1 128 at))
+audienceAt s flags at = pick (eqb (flags / 4 % 2) 0) (PartOf Absent at) (afterRun BadPart foundPart (textAt s 2 Printable 1 audMost at))
 
 -- the strings, behind which nothing follows
 abbrev pub stringsOf : Span → Span → Span → Part → StringsAt
 stringsOf method path tenant audience = record { method = method; path = path; tenant = tenant; audience = audience }
 
-unfoldable pub endThen : List ℕ → Span → Span → Span → Part → ℕ → Strings
-endThen s method path tenant audience next = pick (ltb next (length s)) NoStrings (StringsOf (stringsOf method path tenant audience))
+unfoldable pub stringsEnd : List ℕ → Span → Span → Span → Part → ℕ → Strings
+stringsEnd s method path tenant audience next = pick (ltb next (length s)) NoStrings (StringsOf (stringsOf method path tenant audience))
 
 unfoldable pub tenantThen : List ℕ → ℕ → Span → Span → Span → Strings
-tenantThen s flags method path tenant = afterPart NoStrings (endThen s method path tenant) (audienceAt s flags (tenant .to))
+tenantThen s flags method path tenant = afterPart NoStrings (stringsEnd s method path tenant) (audienceAt s flags (tenant .to))
 
 unfoldable pub pathThen : List ℕ → ℕ → Span → Span → Strings
-pathThen s flags method path = afterRun NoStrings (tenantThen s flags method path) (textAt s 2 Name 1 64 (path .to))
+pathThen s flags method path = afterRun NoStrings (tenantThen s flags method path) (textAt s 2 Name 1 nameMost (path .to))
 
-unfoldable pub methodThen : List ℕ → ℕ → Span → Strings
-methodThen s flags method = afterRun NoStrings (pathThen s flags method) (textAt s 2 Path 1 1024 (method .to))
+unfoldable pub methodNext : List ℕ → ℕ → Span → Strings
+methodNext s flags method = afterRun NoStrings (pathThen s flags method) (textAt s 2 Path 1 requestPathMost (method .to))
 
 unfoldable pub stringsAt : List ℕ → ℕ → ℕ → Strings
-stringsAt s flags at = afterRun NoStrings (methodThen s flags) (textAt s 2 Upper 1 16 at)
+stringsAt s flags at = afterRun NoStrings (methodNext s flags) (textAt s 2 Upper 1 methodMost at)
 
 -- the whole; bit 0 of the flags is amnesia
-abbrev pub allOf : Numbers → ExtrasAt → StringsAt → RequestAt
-allOf numbers extras strings =
+abbrev pub requestWith : Numbers → ExtrasAt → StringsAt → RequestAt
+requestWith numbers extras strings =
     record {
       now = numbers .now;
       size = numbers .size;
@@ -144,7 +146,7 @@ allOf numbers extras strings =
     }
 
 abbrev pub stringsThen : Numbers → ExtrasAt → StringsAt → RequestParts
-stringsThen numbers extras strings = Of (allOf numbers extras strings)
+stringsThen numbers extras strings = Of (requestWith numbers extras strings)
 
 unfoldable pub extrasNext : List ℕ → Numbers → ExtrasAt → ℕ → RequestParts
 extrasNext s numbers extras next = afterStrings Bad (stringsThen numbers extras) (stringsAt s (numbers .flags) next)

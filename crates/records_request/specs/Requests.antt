@@ -1,5 +1,5 @@
--- What a request is, which requests are within limits, and how one is written. Document 01, "House records": "Request body: now (8),
--- body size (8), skew (2, at most 300), flags (1: bit 0 amnesia, 1 IPv4 peer, 2 audience, 3 digest, 4 rate; others zero); then, ..".
+-- Meaning. What a request is, which requests are within limits, and how one is written. Document 01, "House records": "Request body: now
+-- (8), body size (8), skew (2, at most 300), flags (1: bit 0 amnesia, 1 IPv4 peer, 2 audience, 3 digest, 4 rate; others zero); then, ..".
 use mathlib.Core.Path.{_≡_}
 use mathlib.Core.Bool.{Bool}
 use mathlib.Core.List.{List, [], _++_}
@@ -7,6 +7,7 @@ use mathlib.Core.Option.{Option, some, none}
 use Prim.Native.Nat.{ℕ, _+_, _*_, _^_, _<_, _≤_}
 use lib.ListN.{length}
 use Rattle.basis.specs.Basis.{pick}
+use Rattle.basis.specs.Limits.{skewMost, digestLength, methodMost, nameMost, audMost, requestPathMost}
 use Rattle.cbor_strings.specs.declared.Class.the-variants.{Hex, Upper, Path, Name, Printable}
 use Rattle.cbor_keys.specs.Maps.{present, IfPresent, GoodText}
 use Rattle.records.specs.Records.{little, counted}
@@ -74,11 +75,11 @@ pub record GoodRate (r : PerSecond) : Type 0 where
 pub record GoodRequest (x : Request) : Type 0 where
   pub good-now : x .now < 2 ^ 64
   pub good-size : x .size < 2 ^ 64
-  pub good-skew : x .skew ≤ 300
+  pub good-skew : x .skew ≤ skewMost
   pub good-peer : IfPresent FourBytes (x .peer)
-  pub good-digest : IfPresent (GoodText Hex 64 64) (x .digest)
+  pub good-digest : IfPresent (GoodText Hex digestLength digestLength) (x .digest)
   pub good-rate : IfPresent GoodRate (x .rate)
-  pub good-method : GoodText Upper 1 16 (x .method)
-  pub good-path : GoodText Path 1 1024 (x .path)
-  pub good-tenant : GoodText Name 1 64 (x .tenant)
-  pub good-audience : IfPresent (GoodText Printable 1 128) (x .audience)
+  pub good-method : GoodText Upper 1 methodMost (x .method)
+  pub good-path : GoodText Path 1 requestPathMost (x .path)
+  pub good-tenant : GoodText Name 1 nameMost (x .tenant)
+  pub good-audience : IfPresent (GoodText Printable 1 audMost) (x .audience)

@@ -1,11 +1,12 @@
 // Request bodies. The reader takes a slice of any length; there is one defect, for ctx.bad has no place.
 use basis::Part;
 use basis::Span;
+use basis::limits;
 use cbor_strings::Class;
 use records::Number;
 use records::Run;
 ghost use mathlib.Core.Path.{_≡_};
-ghost use Rattle.records_request.specs.Reading.{fixedAt, peerAt, digestAt, rateAt, extrasAt, audienceAt, stringsAt, allOf, fixedThen, requestOf};
+ghost use Rattle.records_request.specs.Reading.{fixedAt, peerAt, digestAt, rateAt, extrasAt, audienceAt, stringsAt, requestWith, fixedThen, requestOf};
 
 // What stands in every body before the parts that the flags tell of.
 pub struct Numbers {
@@ -91,7 +92,7 @@ fn fixed_at(s: &[u8]) -> Fixed
                 Number::Of { n: skew, next: r } => match records::little_at(s, r, 1) {
                     Number::Bad => Fixed::Bad,
                     Number::Of { n: flags, next } => {
-                        if 300 < skew {
+                        if limits::SKEW_MOST < skew {
                             return Fixed::Bad;
                         }
                         if 31 < flags {
@@ -140,7 +141,7 @@ fn digest_at(s: &[u8], flags: u64, at: usize) -> PartStep
             next: at,
         };
     }
-    match records::run_at(s, at, 64) {
+    match records::run_at(s, at, limits::DIGEST_LENGTH) {
         Run::Bad => PartStep::Bad,
         Run::Of { span } => {
             let from = span.from;
@@ -210,7 +211,7 @@ fn audience_at(s: &[u8], flags: u64, at: usize) -> PartStep
             next: at,
         };
     }
-    match records::text_at(s, at, 2, Class::Printable, 1, 128) {
+    match records::text_at(s, at, 2, Class::Printable, 1, limits::AUD_MOST) {
         Run::Bad => PartStep::Bad,
         Run::Of { span } => PartStep::Of {
             part: Part::At { span },
@@ -223,11 +224,25 @@ fn audience_at(s: &[u8], flags: u64, at: usize) -> PartStep
 fn strings_at(s: &[u8], flags: u64, at: usize) -> Strings
     ensures { λ r. ⌜ r ≡ stringsAt (now (s .entry)) flags at ⌝ }
 {
-    match records::text_at(s, at, 2, Class::Upper, 1, 16) {
+    match records::text_at(s, at, 2, Class::Upper, 1, limits::METHOD_MOST) {
         Run::Bad => Strings::Bad,
-        Run::Of { span: method } => match records::text_at(s, method.to, 2, Class::Path, 1, 1024) {
+        Run::Of { span: method } => match records::text_at(
+            s,
+            method.to,
+            2,
+            Class::Path,
+            1,
+            limits::REQUEST_PATH_MOST,
+        ) {
             Run::Bad => Strings::Bad,
-            Run::Of { span: path } => match records::text_at(s, path.to, 2, Class::Name, 1, 64) {
+            Run::Of { span: path } => match records::text_at(
+                s,
+                path.to,
+                2,
+                Class::Name,
+                1,
+                limits::NAME_MOST,
+            ) {
                 Run::Bad => Strings::Bad,
                 Run::Of { span: tenant } => match audience_at(s, flags, tenant.to) {
                     PartStep::Bad => Strings::Bad,
@@ -255,7 +270,7 @@ fn strings_at(s: &[u8], flags: u64, at: usize) -> Strings
 
 // Bit 0 of the flags is amnesia.
 fn all_of(numbers: Numbers, extras: ExtrasAt, strings: StringsAt) -> RequestAt
-    ensures { λ r. ⌜ r ≡ allOf numbers extras strings ⌝ }
+    ensures { λ r. ⌜ r ≡ requestWith numbers extras strings ⌝ }
 {
     let peer = extras.peer;
     let digest = extras.digest;

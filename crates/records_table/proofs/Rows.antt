@@ -13,11 +13,13 @@ use Rattle.records.specs.declared.RecordAt.{RecordAt}
 use Rattle.basis.proofs.Parts.{past, lies, on, one-front}
 use Rattle.cbor_strings.specs.declared.Class.the-variants.{Name}
 use Rattle.cbor_keys.proofs.StepLaws.{must-take, must-pass}
-use Rattle.records.specs.Records.{counted, recordBytes, textAt, readRecord}
+use Rattle.records.specs.Records.{counted, recordBytes}
+use Rattle.records.specs.Reading.{textAt, readRecord}
 use Rattle.records.proofs.Runs.{ends-inside}
 use Rattle.records.proofs.Fields.{run-went, record-went, counted-length, text-written, text-behind, text-inside, text-lies, IsText, text-read, record-written, record-body, IsRecord, record-read}
 use Rattle.records_table.specs.Tables.{Row, encodeRow, GoodRow}
-use Rattle.records_table.specs.Reading.{rowWith, rowKid, rowTid, rowBody, rowThen, readRow, Inside}
+use Rattle.records_table.specs.Reading.{rowWith, rowKid, rowTid, rowBody, rowThen, readRow}
+use Rattle.records_table.specs.Inner.{Inside}
 use Rattle.records_table.specs.declared.RowAt.{RowAt}
 use Rattle.records_table.specs.declared.RowParts.{RowParts}
 use Rattle.records_table.specs.declared.RowParts.the-variants.{Of, Bad}

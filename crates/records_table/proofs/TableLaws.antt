@@ -9,7 +9,8 @@ use lib.Dec.{eqb}
 use lib.ListN.{length, drop, length-drop, drop-of-length-le}
 use Rattle.basis.specs.Basis.{pick, between, IsBytes}
 use Rattle.basis.proofs.Parts.{on}
-use Rattle.records.specs.Records.{little, recordBytes, runAt, littleAt, readRecord}
+use Rattle.records.specs.Records.{little, recordBytes}
+use Rattle.records.specs.Reading.{runAt, littleAt, readRecord}
 use Rattle.records_table.specs.Order.{sameIds}
 use Rattle.records_table.specs.Tables.{Row, encodeRow, encodeTable, GoodFrom, GoodTable, hasRow, keyIn}
 use Rattle.records_table.specs.Reading.{readRow, afterRow, orderedThen, rowAfter, okThen, okFrom, tableOk, foundThen, foundFrom, findFrom, lookupOf}

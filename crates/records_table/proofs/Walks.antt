@@ -10,7 +10,8 @@ use Rattle.basis.specs.Basis.{pick, fromTo, between, behind, IsBytes}
 use Rattle.basis.specs.declared.Span.{Span}
 use Rattle.basis.proofs.Parts.{take-least}
 use Rattle.records_table.specs.Order.{ascends, sameIds}
-use Rattle.records_table.specs.Reading.{rowWith, Inside, readRow, afterRow, orderedThen, rowAfter, okFrom, tableOk, foundThen, foundFrom, findFrom, keyStart, placeFrom}
+use Rattle.records_table.specs.Reading.{rowWith, readRow, afterRow, orderedThen, rowAfter, okFrom, tableOk, foundThen, foundFrom, findFrom, keyStart, placeFrom}
+use Rattle.records_table.specs.Inner.{Inside}
 use Rattle.records_table.specs.declared.RowAt.{RowAt}
 use Rattle.records_table.specs.declared.RowParts.{RowParts}
 use Rattle.records_table.specs.declared.RowParts.the-variants.{Of, Bad}

@@ -1,3 +1,4 @@
 pub mod Order
 pub mod Tables
 pub mod Reading
+pub mod Inner

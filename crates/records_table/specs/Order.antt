@@ -1,5 +1,5 @@
--- The order of a table's rows. Document 01, "House records": "strictly ascending by tid bytes, then kid bytes, where a string comes
--- before any longer one that begins with it".
+-- Meaning. The order of a table's rows. Document 01, "House records": "strictly ascending by tid bytes, then kid bytes, where a string
+-- comes before any longer one that begins with it".
 use mathlib.Core.Bool.{Bool, true, false}
 use mathlib.Core.List.{List, [], _∷_}
 use Prim.Native.Nat.{ℕ}

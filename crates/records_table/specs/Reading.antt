@@ -1,15 +1,17 @@
--- The one reading of a key table, and the lookup. Document 01, "House records": "Anything else is table.bad. The lookup hands back the
--- 32 key bytes as a part of the table ..; where the table is bad or has no such row, an empty part."
+-- Reading. Need not be believed: the laws fix it both ways (`table-written`, `table-read`, `find-finds`), since it has one defect. The one
+-- reading of a key table, and the lookup. Document 01, "House records": "Anything else is table.bad. The lookup hands back the 32 key bytes
+-- as a part of the table ..; where the table is bad or has no such row, an empty part."
 use mathlib.Core.Bool.{Bool, true, false}
 use mathlib.Core.List.{List, []}
-use Prim.Native.Nat.{ℕ, zero, suc, _-_, _≤_}
+use Prim.Native.Nat.{ℕ, zero, suc, _-_}
 use lib.Dec.{eqb, ltb}
 use lib.ListN.{length}
 use Rattle.basis.specs.Basis.{pick, fromTo, between}
 use Rattle.basis.specs.declared.Span.{Span}
+use Rattle.basis.specs.Limits.{keyLength, nameMost, rowKind, rowsMost}
 use Rattle.cbor_strings.specs.declared.Class.the-variants.{Name}
 use Rattle.records.specs.declared.RecordAt.{RecordAt}
-use Rattle.records.specs.Records.{afterRun, afterRecord, textAt, readRecord}
+use Rattle.records.specs.Reading.{afterRun, afterRecord, textAt, readRecord}
 use Rattle.records_table.specs.Order.{ascends, sameIds}
 use Rattle.records_table.specs.declared.RowAt.{RowAt}
 use Rattle.records_table.specs.declared.RowParts.{RowParts}
@@ -21,16 +23,16 @@ rowWith tid kid key = record { tid = tid; kid = kid; key = key }
 
 -- 32 bytes of key are left behind kid, and no more
 unfoldable pub rowKid : ℕ → Span → Span → RowParts
-rowKid to tid kid = pick (ltb to (kid .to)) Bad (pick (eqb (to - kid .to) 32) (Of (rowWith tid kid (fromTo (kid .to) to))) Bad)
+rowKid to tid kid = pick (ltb to (kid .to)) Bad (pick (eqb (to - kid .to) keyLength) (Of (rowWith tid kid (fromTo (kid .to) to))) Bad)
 
 unfoldable pub rowTid : List ℕ → ℕ → Span → RowParts
-rowTid s to tid = afterRun Bad (rowKid to tid) (textAt s 1 Name 1 64 (tid .to))
+rowTid s to tid = afterRun Bad (rowKid to tid) (textAt s 1 Name 1 nameMost (tid .to))
 
 unfoldable pub rowBody : List ℕ → Span → RowParts
-rowBody s body = afterRun Bad (rowTid s (body .to)) (textAt s 1 Name 1 64 (body .from))
+rowBody s body = afterRun Bad (rowTid s (body .to)) (textAt s 1 Name 1 nameMost (body .from))
 
 unfoldable pub rowThen : List ℕ → RecordAt → RowParts
-rowThen s found = pick (eqb (found .kind) 1) (rowBody s (found .body)) Bad
+rowThen s found = pick (eqb (found .kind) rowKind) (rowBody s (found .body)) Bad
 
 unfoldable pub readRow : List ℕ → ℕ → RowParts
 readRow s at = afterRecord Bad (rowThen s) (readRecord s at)
@@ -38,13 +40,6 @@ readRow s at = afterRecord Bad (rowThen s) (readRecord s at)
 abbrev pub afterRow : {A : Type 0} → A → (RowAt → A) → RowParts → A
 afterRow bad rest Bad = bad
 afterRow bad rest (Of row) = rest row
-
--- ids that lie inside the table, so that they can be lent
-pub record Inside (s : List ℕ) (row : RowAt) : Type 0 where
-  pub tid-order : row .tid .from ≤ row .tid .to
-  pub tid-inside : row .tid .to ≤ length s
-  pub kid-order : row .kid .from ≤ row .kid .to
-  pub kid-inside : row .kid .to ≤ length s
 
 -- a row behind the one with ids t and k
 unfoldable pub orderedThen : List ℕ → List ℕ → List ℕ → RowAt → RowParts
@@ -63,7 +58,7 @@ okFrom zero s t k at = eqb at (length s)
 okFrom (suc n) s t k at = pick (eqb at (length s)) true (afterRow false (okThen (okFrom n s) s) (rowAfter s t k at))
 
 unfoldable pub tableOk : List ℕ → Bool
-tableOk s = okFrom 64 s [] [] 0
+tableOk s = okFrom rowsMost s [] [] 0
 
 -- the walk to the row with these ids, among at most so many rows from a place on: what is made of where its key lies, or of none
 unfoldable pub foundThen : {A : Type 0} → (Span → A) → (ℕ → A) → List ℕ → List ℕ → List ℕ → RowAt → A
@@ -84,7 +79,7 @@ unfoldable pub placeFrom : ℕ → List ℕ → List ℕ → List ℕ → ℕ �
 placeFrom n s tid kid at = foundFrom 0 keyStart n s tid kid at
 
 unfoldable pub lookupOf : List ℕ → List ℕ → List ℕ → List ℕ
-lookupOf s tid kid = pick (tableOk s) (findFrom 64 s tid kid 0) []
+lookupOf s tid kid = pick (tableOk s) (findFrom rowsMost s tid kid 0) []
 
 unfoldable pub lookupPlace : List ℕ → List ℕ → List ℕ → ℕ
-lookupPlace s tid kid = pick (tableOk s) (placeFrom 64 s tid kid 0) 0
+lookupPlace s tid kid = pick (tableOk s) (placeFrom rowsMost s tid kid 0) 0

@@ -1,5 +1,5 @@
--- What a key table is, which are good, and how one is written. Document 01, "House records": "Key table: 0 to 64 records of kind 1,
--- body: tid length (1 byte), tid, kid length, kid, 32 key bytes; strictly ascending"; tid and kid as everywhere: "1 to 64 of letters,
+-- Meaning. What a key table is, which are good, and how one is written. Document 01, "House records": "Key table: 0 to 64 records of kind
+-- 1, body: tid length (1 byte), tid, kid length, kid, 32 key bytes; strictly ascending"; tid and kid as everywhere: "1 to 64 of letters,
 -- digits, "-", ".", "_"".
 use mathlib.Core.Path.{_≡_}
 use mathlib.Core.Bool.{Bool, true, false}
@@ -10,6 +10,7 @@ use Rattle.cbor_strings.specs.declared.Class.the-variants.{Name}
 use Rattle.cbor_keys.specs.Maps.{GoodText}
 use Rattle.records.specs.Records.{counted, recordBytes}
 use Rattle.basis.specs.Basis.{pick}
+use Rattle.basis.specs.Limits.{nameMost, keyLength, rowsMost}
 use Rattle.records_table.specs.Order.{ascends, sameIds}
 
 pub record Row : Type 0 where
@@ -25,9 +26,9 @@ encodeTable [] = []
 encodeTable (r ∷ rs) = encodeRow r ++ encodeTable rs
 
 pub record GoodRow (r : Row) : Type 0 where
-  pub good-tid : GoodText Name 1 64 (r .tid)
-  pub good-kid : GoodText Name 1 64 (r .kid)
-  pub key-long : length (r .key) ≡ 32
+  pub good-tid : GoodText Name 1 nameMost (r .tid)
+  pub good-kid : GoodText Name 1 nameMost (r .kid)
+  pub key-long : length (r .key) ≡ keyLength
 
 -- each row good and behind the one before it
 unfoldable pub GoodFrom : List ℕ → List ℕ → List Row → Type 0
@@ -36,10 +37,11 @@ GoodFrom t k (r ∷ rs) = GoodRow r × (ascends t k (r .tid) (r .kid) ≡ true) 
 
 -- before the first row stand empty ids, which come before all others
 pub record GoodTable (rs : List Row) : Type 0 where
-  pub few : length rs ≤ 64
+  pub few : length rs ≤ rowsMost
   pub rows : GoodFrom [] [] rs
 
--- whether there is a row with these ids
+-- whether there is a row with these ids. 01: "The lookup hands back the 32 key bytes as a part of the table ..; where the table is bad or has
+-- no such row, an empty part."
 unfoldable pub hasRow : List Row → List ℕ → List ℕ → Bool
 hasRow [] tid kid = false
 hasRow (r ∷ rs) tid kid = pick (sameIds (r .tid) (r .kid) tid kid) true (hasRow rs tid kid)

@@ -1,13 +1,15 @@
 // Key tables: rows of tid, kid and key, strictly ascending. The whole table is judged on every call, and
 // the key is handed back as a part of the table.
 use basis::Span;
+use basis::limits;
 use cbor_strings::Class;
 use records::RecordParts;
 use records::Run;
 ghost use mathlib.Core.Path.{_≡_};
 ghost use Rattle.records_table.specs.Order.{beforeOf, ascends, sameIds};
 ghost use Rattle.basis.specs.Basis.{between, behind};
-ghost use Rattle.records_table.specs.Reading.{Inside, rowBody, readRow, rowAfter, tableOk};
+ghost use Rattle.records_table.specs.Reading.{rowBody, readRow, rowAfter, tableOk};
+ghost use Rattle.records_table.specs.Inner.{Inside};
 ghost use Rattle.records_table.specs.Reading.{findFrom, placeFrom, lookupOf, lookupPlace};
 
 // Where the parts of a row lie; the row ends where its key does.
@@ -58,15 +60,22 @@ fn row_before(t: &[u8], k: &[u8], tid: &[u8], kid: &[u8]) -> bool
 fn row_body(s: &[u8], body: Span) -> RowParts
     ensures { λ r. ⌜ r ≡ rowBody (now (s .entry)) body ⌝ }
 {
-    match records::text_at(s, body.from, 1, Class::Name, 1, 64) {
+    match records::text_at(s, body.from, 1, Class::Name, 1, limits::NAME_MOST) {
         Run::Bad => RowParts::Bad,
-        Run::Of { span: tid } => match records::text_at(s, tid.to, 1, Class::Name, 1, 64) {
+        Run::Of { span: tid } => match records::text_at(
+            s,
+            tid.to,
+            1,
+            Class::Name,
+            1,
+            limits::NAME_MOST,
+        ) {
             Run::Bad => RowParts::Bad,
             Run::Of { span: kid } => {
                 if body.to < kid.to {
                     return RowParts::Bad;
                 }
-                if body.to - kid.to == 32 {
+                if body.to - kid.to == limits::KEY_LENGTH {
                     return RowParts::Of {
                         row: RowAt {
                             tid,
@@ -90,7 +99,7 @@ fn row_at(s: &[u8], at: usize) -> RowParts
     match records::record_at(s, at) {
         RecordParts::Bad => RowParts::Bad,
         RecordParts::Of { record } => {
-            if record.kind == 1 {
+            if record.kind == limits::ROW_KIND {
                 let body = record.body;
                 return row_body(s, body);
             }
@@ -145,7 +154,7 @@ pub fn table_ok(s: &[u8]) -> bool
         kid: none,
         key: none,
     };
-    let mut left: u32 = 64;
+    let mut left: u32 = limits::ROWS_MOST;
     while last.key.to != s.len() {
         if left == 0 {
             return false;
@@ -178,7 +187,7 @@ pub fn find<'a>(table: &'a [u8], tid: &[u8], kid: &[u8]) -> &'a [u8]
     ensures { λ r. ⌜ now r ≡ findFrom 64 (now (table .entry)) (now (tid .entry)) (now (kid .entry)) 0 ⌝ }
     ensures { λ r. ⌜ r .ptr ≡ behind (table .entry .ptr) (placeFrom 64 (now (table .entry)) (now (tid .entry)) (now (kid .entry)) 0) ⌝ }
 {
-    let mut rows: u32 = 64;
+    let mut rows: u32 = limits::ROWS_MOST;
     let mut p: usize = 0;
     while 0 < rows {
         match row_at(table, p) {

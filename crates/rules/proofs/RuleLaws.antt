@@ -33,7 +33,7 @@ use Rattle.records_request.specs.Requests.{Request, PerSecond}
 use Rattle.records_request.specs.declared.RateAt.{RateAt}
 use Rattle.records_request.specs.declared.RequestAt.{RequestAt}
 use Rattle.records_request.proofs.Holds.{rateOf, Holds as RequestHeld}
-use Rattle.rules.specs.Holding.{memberOf, ifThere, onlyThere, addressBytes, within, failing, caveatHolds, scopeAnswer, caveatAnswer}
+use Rattle.rules.specs.Holding.{memberOf, ifThere, onlyThere, addressBytes, rateWithin, failing, caveatHolds, scopeAnswer, caveatAnswer}
 use Rattle.rules_compare.specs.Fitting.{fitsOf}
 use Rattle.rules_compare.specs.Comparing.{memberAt, memberIn, rateHolds, prefixFits, limitHolds, partIs, peerAgrees}
 use Rattle.rules.specs.Judging.{scopeJudged, amnesiaHeld, caveatHeld, failingOf, caveatJudged}
@@ -85,7 +85,7 @@ part-law body a none (At part) h = elim h [ ]
 part-law body a (some x) Absent h = elim h [ ]
 part-law body a (some x) (At part) h = ap (sameOf a) h
 
-rate-law : (per-s burst : ℕ) (o : Option PerSecond) (part : RateAt) → rateOf o ≡ part → rateHolds part per-s burst ≡ onlyThere (within per-s burst) o
+rate-law : (per-s burst : ℕ) (o : Option PerSecond) (part : RateAt) → rateOf o ≡ part → rateHolds part per-s burst ≡ onlyThere (rateWithin per-s burst) o
 unfolding rateHolds
 rate-law per-s burst none part e = rw (← e)
 rate-law per-s burst (some x) part e = rw (← e)

@@ -1,5 +1,5 @@
--- What holds when, on trees. Document 01, "What holds when": "Scope: the request's method is in methods; its path starts with prefix,
--- if there is one; body size is at most max_bytes, if there is one. Caveats, with whole-number sums: ..".
+-- Meaning. What holds when, on trees. Document 01, "What holds when": "Scope: the request's method is in methods; its path starts with
+-- prefix, if there is one; body size is at most max_bytes, if there is one. Caveats, with whole-number sums: ..".
 use mathlib.Core.Bool.{Bool, true, false}
 use mathlib.Core.List.{List, [], _∷_}
 use mathlib.Core.Option.{Option, some, none}
@@ -36,8 +36,8 @@ abbrev pub addressBytes : Prefix → List ℕ
 addressBytes p = p .a ∷ p .b ∷ p .c ∷ p .d ∷ []
 
 -- "neither of its numbers exceeds the caveat's"
-abbrev pub within : ℕ → ℕ → PerSecond → Bool
-within per-s burst r = pick (leb (r .per-s) per-s) (leb (r .burst) burst) false
+abbrev pub rateWithin : ℕ → ℕ → PerSecond → Bool
+rateWithin per-s burst r = pick (leb (r .per-s) per-s) (leb (r .burst) burst) false
 
 -- the answer where a caveat fails
 unfoldable pub failing : Caveat → Answer
@@ -64,7 +64,7 @@ caveatHolds r tid (path-prefix p) = fitsOf p (r .path)
 -- "a present peer's first n bits agree": byte by byte; that these are the bits, `Agree` of `token_cidr`, is `first-bits` of proofs/Meanings.antt
 caveatHolds r tid (ip-cidr p) = onlyThere (λ x. agreeOf (addressBytes p) x (p .size)) (r .peer)
 caveatHolds r tid (bytes-le n) = leb (r .size) n
-caveatHolds r tid (rate per-s burst) = onlyThere (within per-s burst) (r .rate)
+caveatHolds r tid (rate per-s burst) = onlyThere (rateWithin per-s burst) (r .rate)
 caveatHolds r tid (tenant t) = sameOf t tid
 caveatHolds r tid (amnesia true) = r .amnesia
 caveatHolds r tid (amnesia false) = true

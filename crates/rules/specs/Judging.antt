@@ -1,4 +1,5 @@
--- The rules where the parts lie: of strings and lists by their places, of numbers as they were read.
+-- Reading. Need not be believed: the laws hold it to Holding (`scope-law`, `caveat-law`). The rules where the parts lie: of strings and
+-- lists by their places, of numbers as they were read.
 use mathlib.Core.Bool.{Bool, true, false}
 use mathlib.Core.List.{List}
 use Prim.Native.Nat.{ℕ, _+_}

@@ -12,7 +12,7 @@ use lib.Seq.{drop-cons}
 use Rattle.basis.specs.Basis.{pick, between}
 use Rattle.basis.specs.declared.Span.{Span}
 use Rattle.basis.specs.Same.{sameOf}
-use Rattle.cbor_strings.specs.Strings.{readString}
+use Rattle.cbor_strings.specs.Reading.{readString}
 use Rattle.cbor_strings.specs.declared.Class.the-variants.{Upper}
 use Rattle.cbor_strings.specs.declared.Content.the-variants.{Of, Bad}
 use Rattle.rules_compare.specs.Fitting.{fitsOf}

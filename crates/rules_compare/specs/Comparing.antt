@@ -1,4 +1,5 @@
--- What single rules compare, where the parts lie: of strings and lists by their places, of numbers as they were read.
+-- Reading. Need not be believed: the laws of `rules` hold it to Holding. What single rules compare, where the parts lie: of strings and
+-- lists by their places, of numbers as they were read.
 use mathlib.Core.Bool.{Bool, true, false}
 use mathlib.Core.List.{List, [], _∷_}
 use Prim.Native.Nat.{ℕ, zero, suc, _%_}
@@ -8,7 +9,8 @@ use Rattle.basis.specs.Same.{sameOf}
 use Rattle.basis.specs.declared.Span.{Span}
 use Rattle.basis.specs.declared.Part.{Part}
 use Rattle.basis.specs.declared.Part.the-variants.{Absent, At}
-use Rattle.cbor_strings.specs.Strings.{readString}
+use Rattle.basis.specs.Limits.{methodMost}
+use Rattle.cbor_strings.specs.Reading.{readString}
 use Rattle.cbor_strings.specs.declared.Class.the-variants.{Upper}
 use Rattle.cbor_values.specs.declared.ListAt.{ListAt}
 use Rattle.cbor_keys.specs.Steps.{afterContent}
@@ -30,7 +32,7 @@ memberThen rest s m part = pick (sameOf (between s part) m) true (rest (part .to
 -- among so many methods from a place on
 unfoldable pub memberAt : ℕ → List ℕ → List ℕ → ℕ → Bool
 memberAt zero s m at = false
-memberAt (suc k) s m at = afterContent noMember (memberThen (memberAt k s m) s m) (readString s at Upper 1 16)
+memberAt (suc k) s m at = afterContent noMember (memberThen (memberAt k s m) s m) (readString s at Upper 1 methodMost)
 
 abbrev pub memberIn : List ℕ → ListAt → List ℕ → Bool
 memberIn s methods m = memberAt (methods .count) s m (methods .span .from)

@@ -1,4 +1,4 @@
--- Document 01, "What holds when": "its path starts with prefix".
+-- Meaning. Document 01, "What holds when": "its path starts with prefix".
 use mathlib.Core.Bool.{Bool, true, false}
 use mathlib.Core.List.{List, [], _∷_}
 use Prim.Native.Nat.{ℕ}

@@ -1,6 +1,7 @@
 // The comparisons that scope and caveats are judged by, each of one part of a token with one part of a request,
 // where they lie.
 use basis::Part;
+use basis::limits;
 use cbor_strings::Class;
 use cbor_strings::Content;
 use cbor_values::ListAt;
@@ -40,7 +41,7 @@ pub fn method_in(s: &[u8], methods: ListAt, method: &[u8]) -> bool
     let mut p = methods.span.from;
     let mut k = methods.count;
     while 0 < k {
-        match cbor_strings::read_string(s, p, Class::Upper, 1, 16) {
+        match cbor_strings::read_string(s, p, Class::Upper, 1, limits::METHOD_MOST) {
             Content::Bad { kind: _, at: _ } => {
                 return false;
             }

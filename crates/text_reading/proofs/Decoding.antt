@@ -9,7 +9,8 @@ use lib.Dec.{ltb, eqb}
 use lib.ListN.{length}
 use Rattle.basis.specs.Basis.{pick, over}
 use Rattle.text_reading.proofs.Judging.{bad-le}
-use Rattle.text_reading.specs.Reading.{badAt, unusedOf, byteLength, judgedOf, bytesOf, decodedOf, leftOf, Fillable, Filled}
+use Rattle.text_reading.specs.Reading.{badAt, unusedOf, byteLength, judgedOf, bytesOf, decodedOf, leftOf, Filled}
+use Rattle.text_reading.specs.Inner.{Fillable}
 use Rattle.text_reading.specs.declared.Judged.the-variants.{Whole, Fault}
 use Rattle.text_reading.specs.declared.Decoded.the-variants.{Bytes, Bad, Short}
 

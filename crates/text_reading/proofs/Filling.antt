@@ -13,7 +13,8 @@ use lib.Seq.{take-add, length-take-le, take-all}
 use Rattle.basis.specs.Basis.{pick, over}
 use Rattle.basis.proofs.Rooms.{set-over, lent-over}
 use Rattle.text_writing.proofs.Fronts.{front-at, left-fits}
-use Rattle.text_reading.specs.Reading.{digitOf, badAt, bytesOf, byteLength, Fillable}
+use Rattle.text_reading.specs.Reading.{digitOf, badAt, bytesOf, byteLength}
+use Rattle.text_reading.specs.Inner.{Fillable}
 
 -- where every character is a letter, each is
 pub letter-at : (text : List ℕ) → badAt text ≡ length text → (i : ℕ) → i < length text → digitOf (getD text i 0) < 64

@@ -1,10 +1,10 @@
--- Reading a text: its first defect by document 02's rule for places (the first bad character; else a wrong length, at the end;
+-- Reading. Reading a text: its first defect by document 02's rule for places (the first bad character; else a wrong length, at the end;
 -- else unused bits, at the last character), or the bytes that it stands for.
 use mathlib.Core.Path.{_≡_}
 use mathlib.Core.Bool.{Bool, _&&_}
 use mathlib.Core.List.{List, [], _∷_}
-use Prim.Native.Nat.{ℕ, suc, _+_, _-_, _*_, _/_, _%_, _≤_, _<_}
-use lib.ListN.{length, getD}
+use Prim.Native.Nat.{ℕ, suc, _+_, _-_, _*_, _/_, _%_}
+use lib.ListN.{length}
 use lib.Dec.{ltb, leb, eqb}
 use Rattle.bytes.specs.Bytes.{indexOf}
 use Rattle.basis.specs.Basis.{pick, over}
@@ -17,10 +17,6 @@ use Rattle.text_reading.specs.declared.Decoded.the-variants.{Bytes, Bad,
 -- the six bits of a letter; 64 for a character that is none
 unfoldable pub digitOf : ℕ → ℕ
 digitOf c = indexOf c alphabet
-
--- a table of them, by character
-abbrev pub IsDigits : List ℕ → Type 0
-IsDigits d = (c : ℕ) → c < 256 → getD d c 0 ≡ digitOf c
 
 -- whether four characters are letters
 unfoldable pub fourLetters : ℕ → ℕ → ℕ → ℕ → Bool
@@ -57,11 +53,6 @@ bytesOf (a ∷ b ∷ []) = (digitOf a * 4 + digitOf b / 16) ∷ []
 bytesOf (a ∷ b ∷ c ∷ []) = (digitOf a * 4 + digitOf b / 16) ∷ (digitOf b % 16 * 16 + digitOf c / 4) ∷ []
 bytesOf (a ∷ b ∷ c ∷ d ∷ t) =
     (digitOf a * 4 + digitOf b / 16) ∷ (digitOf b % 16 * 16 + digitOf c / 4) ∷ (digitOf c % 4 * 64 + digitOf d) ∷ bytesOf t
-
--- what the writing of bytes needs: letters alone, and room for all bytes
-pub record Fillable (text room : List ℕ) : Type 0 where
-  pub letters : badAt text ≡ length text
-  pub enough : byteLength (length text) ≤ length room
 
 -- the answer for a room of so many bytes: a defect of the text comes before a room that is too short
 unfoldable pub decodedOf : Judged → ℕ → Decoded

@@ -4,7 +4,8 @@ ghost use mathlib.Core.Path.{_≡_};
 ghost use Prim.Native.Nat.{_<_};
 ghost use lib.ListN.{length};
 ghost use Rattle.basis.specs.Basis.{over};
-ghost use Rattle.text_reading.specs.Reading.{IsDigits, digitOf, fourLetters, badAt, judgedOf, bytesOf, Fillable, Filled};
+ghost use Rattle.text_reading.specs.Reading.{digitOf, fourLetters, badAt, judgedOf, bytesOf, Filled};
+ghost use Rattle.text_reading.specs.Inner.{IsDigits, Fillable};
 
 // The six bits of each character, and 64 for one that is no letter. The compiler lays the table out anew
 // where it is named, so that loops are lent it.

@@ -1,7 +1,6 @@
--- Base64URL without padding, as RFC 4648 section 5 has it: bytes to text. Document 01, "Token bytes".
-use mathlib.Core.Path.{_≡_}
+-- Meaning. Base64URL without padding, as RFC 4648 section 5 has it: bytes to text. Document 01, "Token bytes".
 use mathlib.Core.List.{List, [], _∷_}
-use Prim.Native.Nat.{ℕ, _+_, _*_, _/_, _%_, _<_}
+use Prim.Native.Nat.{ℕ, _+_, _*_, _/_, _%_}
 use lib.Dec.{eqb}
 use lib.ListN.{getD}
 use Rattle.basis.specs.Basis.{pick, ascii}
@@ -12,10 +11,6 @@ alphabet = ascii "ABCDEFGHIJKLMNOPQRSTUVWXYZabcdefghijklmnopqrstuvwxyz0123456789
 
 unfoldable pub letterOf : ℕ → ℕ
 letterOf v = getD alphabet v 0
-
--- a table of them, by their six bits
-abbrev pub IsLetters : List ℕ → Type 0
-IsLetters l = (v : ℕ) → v < 64 → getD l v 0 ≡ letterOf v
 
 -- three bytes are four letters of six bits each; of one or two bytes left over, the unused low bits of the last letter are zero
 unfoldable pub base64url : List ℕ → List ℕ

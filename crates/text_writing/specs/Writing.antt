@@ -1,4 +1,4 @@
--- Writing a text into lent room: whole, or not at all.
+-- Meaning. Writing a text into lent room: whole, or not at all.
 use mathlib.Core.Path.{_≡_}
 use mathlib.Core.List.{List}
 use Prim.Native.Nat.{ℕ}

@@ -3,7 +3,8 @@ ghost use mathlib.Core.Path.{_≡_};
 ghost use Prim.Native.Nat.{_<_, _≤_};
 ghost use lib.ListN.{length};
 ghost use Rattle.basis.specs.Basis.{over};
-ghost use Rattle.text_writing.specs.Base64url.{base64url, letterOf, IsLetters, tailLength, textLength};
+ghost use Rattle.text_writing.specs.Base64url.{base64url, letterOf, tailLength, textLength};
+ghost use Rattle.text_writing.specs.Inner.{IsLetters};
 ghost use Rattle.text_writing.specs.Writing.{Encoding};
 
 // The compiler lays the table out anew where it is named, so that the loop is lent it.

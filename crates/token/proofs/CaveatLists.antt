@@ -20,7 +20,7 @@ use Rattle.token_caveat_values.specs.declared.CaveatParts.the-variants.{Of as C
 use Rattle.token_caveat.proofs.CaveatLaws.{caveat-written, caveat-read}
 use Rattle.token_caveat.proofs.OneCaveat.{caveat-one}
 use Rattle.token.specs.Tokens.{encodeCaveats, AllCaveats}
-use Rattle.token_front.specs.Front.{endBy, caveatEnd}
+use Rattle.token_front.specs.Ends.{endBy, caveatEnd}
 
 caveat-there : (c : Caveat) → GoodCaveat c → (s rest : List ℕ) (at : ℕ) → drop at s ≡ encodeCaveat c ++ rest → caveatEnd s at ≡ End (at + length (encodeCaveat c))
 unfolding endBy

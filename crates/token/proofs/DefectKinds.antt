@@ -7,13 +7,13 @@ use lib.Dec.{eqb}
 use lib.ListN.{length, drop}
 use Rattle.basis.proofs.Picks.{either}
 use Rattle.cbor_heads.specs.Counts.{readCount}
-use Rattle.cbor_strings.specs.Strings.{readRun}
+use Rattle.cbor_strings.specs.Reading.{readRun}
 use Rattle.cbor_strings.specs.declared.Content.the-variants.{Of as Found, Bad as NoContent}
 use Rattle.cbor_strings.proofs.DefectKinds.{Kind, kind-4, kind-5, kind-6, ContentKind, count-kinds, run-kinds}
 use Rattle.cbor_values.specs.Reading.{itemsOf}
 use Rattle.cbor_values.specs.declared.Item.the-variants.{End, Bad as NoItem}
 use Rattle.cbor_values.proofs.DefectKinds.{ItemKind, items-kinds}
-use Rattle.cbor_keys.specs.Keys.{wantedKey}
+use Rattle.cbor_keys.specs.Reading.{wantedKey}
 use Rattle.cbor_keys.specs.Fields.{nameField, numberAt}
 use Rattle.cbor_keys.specs.declared.Names.the-variants.{Token as TokenKeys}
 use Rattle.cbor_keys.proofs.DefectKinds.{item-step, content-step, count-step, wanted-kinds, number-kinds, name-field-kinds}
@@ -23,8 +23,10 @@ use Rattle.token_caveat.specs.Reading.{caveatOf}
 use Rattle.token_caveat_values.specs.declared.CaveatParts.{CaveatParts}
 use Rattle.token_caveat_values.specs.declared.CaveatParts.the-variants.{Of as CaveatFound, Bad as NoCaveat}
 use Rattle.token_caveat.proofs.DefectKinds.{CaveatKind, caveat-kinds}
-use Rattle.token_front.specs.Front.{endBy, caveatEnd, frontThen, rThen, rKeyThen, caveatsThen, cThen, mapThen, frontOf}
-use Rattle.token_back.specs.Back.{tagBad, tagAt, tagField, versionThen, versionAt, versionField, endThen, tidThen, kidThen, vThen, backOf}
+use Rattle.token_front.specs.Front.{frontThen, rThen, rKeyThen, caveatsThen, cThen, mapThen, frontOf}
+use Rattle.token_front.specs.Ends.{endBy, caveatEnd}
+use Rattle.token_back.specs.Back.{tagField, versionField, endThen, tidThen, kidThen, vThen, backOf}
+use Rattle.token_back.specs.Values.{tagBad, tagAt, versionThen, versionAt}
 use Rattle.token.specs.Reading.{backThen, tokenBy, tokenOf}
 use Rattle.basis.specs.declared.Span.{Span}
 use Rattle.basis.specs.Basis.{fromTo}

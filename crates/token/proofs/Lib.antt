@@ -6,3 +6,4 @@ pub mod OneToken
 pub mod WritingLaws
 pub mod OneAnswer
 pub mod DefectKinds
+pub mod TokenMap

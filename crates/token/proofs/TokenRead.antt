@@ -12,7 +12,8 @@ use Rattle.basis.specs.declared.Span.{Span}
 use Rattle.basis.proofs.Parts.{on, lies}
 use Rattle.cbor_heads.specs.Heads.{head}
 use Rattle.cbor_heads.specs.Counts.{readCount}
-use Rattle.cbor_strings.specs.Strings.{string, readRun}
+use Rattle.cbor_strings.specs.Strings.{string}
+use Rattle.cbor_strings.specs.Reading.{readRun}
 use Rattle.cbor_strings.specs.declared.Content.the-variants.{Of as Found, Bad as NoContent}
 use Rattle.cbor_heads.proofs.CountLaws.{there-head, counted}
 use Rattle.cbor_strings.proofs.RunReads.{found}
@@ -20,7 +21,8 @@ use Rattle.cbor_strings.proofs.StringLaws.{written-run}
 use Rattle.cbor_values.specs.Lists.{listOf}
 use Rattle.cbor_values.specs.Reading.{itemsOf}
 use Rattle.cbor_values.specs.declared.Item.the-variants.{End, Bad as NoItem}
-use Rattle.cbor_keys.specs.Keys.{keysOf, wantedKey}
+use Rattle.cbor_keys.specs.Keys.{keysOf}
+use Rattle.cbor_keys.specs.Reading.{wantedKey}
 use Rattle.cbor_keys.specs.Fields.{nameField, numberAt}
 use Rattle.cbor_keys.specs.Maps.{text, entry}
 use Rattle.cbor_keys.specs.declared.Names.the-variants.{Token as TokenKeys}
@@ -32,8 +34,10 @@ use Rattle.token_scope.specs.Reading.{scopeOf}
 use Rattle.token_scope.proofs.ScopeRead.{scope-read, scope-went, scope-long}
 use Rattle.token_caveat.specs.Caveats.{Caveat, GoodName}
 use Rattle.token.specs.Tokens.{Token, encodeCaveats, tokenBytes, encodeToken, AllCaveats, GoodToken}
-use Rattle.token_front.specs.Front.{caveatEnd, frontThen, rThen, rKeyThen, caveatsThen, cThen, mapThen, frontOf}
-use Rattle.token_back.specs.Back.{tagAt, tagField, versionThen, versionAt, versionField}
+use Rattle.token_front.specs.Front.{frontThen, rThen, rKeyThen, caveatsThen, cThen, mapThen, frontOf}
+use Rattle.token_front.specs.Ends.{caveatEnd}
+use Rattle.token_back.specs.Back.{tagField, versionField}
+use Rattle.token_back.specs.Values.{tagAt, versionThen, versionAt}
 use Rattle.token_back.specs.Back.{threeOf, endThen, tidThen, kidThen, vThen, backOf}
 use Rattle.token.specs.Reading.{bothOf, backThen, tokenBy, tokenOf}
 use Rattle.token_front.specs.declared.FrontAt.{FrontAt}

@@ -16,7 +16,8 @@ use Rattle.cbor_heads.proofs.CountLaws.{head-there, count}
 use Rattle.cbor_heads.proofs.HeadLengths.{head-one}
 use Rattle.cbor_strings.proofs.StringLaws.{read-run-written, content-there}
 use Rattle.cbor_values.specs.declared.Item.the-variants.{End}
-use Rattle.cbor_keys.specs.Keys.{keysOf, indexFrom}
+use Rattle.cbor_keys.specs.Keys.{keysOf}
+use Rattle.cbor_keys.specs.Reading.{indexFrom}
 use Rattle.cbor_keys.specs.Maps.{text, entry}
 use Rattle.cbor_keys.specs.declared.Names.the-variants.{Token as TokenKeys}
 use Rattle.cbor_keys.proofs.KeyLaws.{wanted-written}
@@ -26,7 +27,8 @@ use Rattle.token_scope.proofs.ScopeWritten.{scope-written}
 use Rattle.token_caveat.specs.Caveats.{Caveat, GoodName}
 use Rattle.token.specs.Tokens.{Token, encodeCaveats, tokenBytes, encodeToken, AllCaveats, GoodToken}
 use Rattle.token_front.specs.Front.{rThen, rKeyThen, caveatsThen, cThen, mapThen, frontOf}
-use Rattle.token_back.specs.Back.{tagAt, tagField, versionThen, versionAt, versionField}
+use Rattle.token_back.specs.Back.{tagField, versionField}
+use Rattle.token_back.specs.Values.{tagAt, versionThen, versionAt}
 use Rattle.token_back.specs.Back.{threeOf, endThen, tidThen, kidThen, vThen, backOf}
 use Rattle.token.specs.Reading.{bothOf, tokenBy, tokenOf}
 use Rattle.token_front.specs.declared.FrontAt.{FrontAt}

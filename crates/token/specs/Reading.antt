@@ -1,5 +1,5 @@
--- The one reading of a token: its front, then its back. Document 01, "Reading order": "One reading, left to right; the first defect is
--- the answer."
+-- Reading. Need not be believed: it is `readMap` with `tokenFields` (`token-map`), and the laws fix its parts. The one reading of a token:
+-- its front, then its back. Document 01, "Reading order": "One reading, left to right; the first defect is the answer."
 use mathlib.Core.List.{List}
 use Prim.Native.Nat.{ℕ}
 use Rattle.token_front.specs.declared.FrontAt.{FrontAt}

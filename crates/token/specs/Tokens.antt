@@ -1,9 +1,11 @@
--- What a token is, which tokens are within limits, and how one is written. Document 01, "Token bytes": "token, all six: c, r, s, v,
--- kid, tid. v is 1; s is 32 bytes; c is an array of 0 to 64 caveats."
+-- Meaning. What a token is, which tokens are within limits, and how one is written. Document 01, "Token bytes": "token, all six: c, r, s,
+-- v, kid, tid. v is 1; s is 32 bytes; c is an array of 0 to 64 caveats."
 use mathlib.Core.Path.{_≡_}
 use mathlib.Core.List.{List, [], _∷_, _++_}
 use Prim.Native.Nat.{ℕ, _≤_}
 use lib.ListN.{length}
+use Rattle.basis.specs.Limits.{caveatsMost, tagLength}
+use Rattle.cbor_heads.specs.Majors.{map, array, byteString, unsigned}
 use Rattle.cbor_heads.specs.Heads.{head}
 use Rattle.cbor_strings.specs.Strings.{string}
 use Rattle.cbor_keys.specs.Maps.{text, entry}
@@ -24,11 +26,11 @@ encodeCaveats (c ∷ cs) = encodeCaveat c ++ encodeCaveats cs
 -- a token around the bytes of its parts: n caveats, scope, tag, kid, tid
 unfoldable pub tokenBytes : ℕ → List ℕ → List ℕ → List ℕ → List ℕ → List ℕ → List ℕ
 tokenBytes n caveats scope tag kid tid =
-    head 5 6
-    ++ (entry "c" (head 4 n ++ caveats)
+    head map 6
+    ++ (entry "c" (head array n ++ caveats)
     ++ (entry "r" scope
-    ++ (entry "s" (string 2 tag)
-    ++ (entry "v" (head 0 1)
+    ++ (entry "s" (string byteString tag)
+    ++ (entry "v" (head unsigned 1)
     ++ (entry "kid" (text kid)
     ++ entry "tid" (text tid))))))
 
@@ -40,9 +42,9 @@ AllCaveats [] = Unit {0}
 AllCaveats (c ∷ cs) = GoodCaveat c × AllCaveats cs
 
 pub record GoodToken (t : Token) : Type 0 where
-  pub few : length (t .caveats) ≤ 64
+  pub few : length (t .caveats) ≤ caveatsMost
   pub each : AllCaveats (t .caveats)
   pub good-scope : GoodScope (t .scope)
-  pub tag-long : length (t .tag) ≡ 32
+  pub tag-long : length (t .tag) ≡ tagLength
   pub good-kid : GoodName (t .kid)
   pub good-tid : GoodName (t .tid)

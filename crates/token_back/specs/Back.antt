@@ -1,42 +1,30 @@
--- The one reading of a token's back: s, v, kid, tid and nothing behind them. Document 01, "Reading order": "the token's v a well-formed
--- unsigned number other than 1: schema.unknown_field; a v of another type is parse.cbor"; "s and digest have none [no length range]
--- either: a wrong length is parse.cbor"; "All else, and bytes left over: parse.cbor".
+-- Reading. Need not be believed: it is the back of `readMap` with `tokenFields` (`token-map`), and the laws fix its parts. The one reading
+-- of a token's back: s, v, kid, tid and nothing behind them. Document 01, "Reading order": "the token's v a well-formed unsigned number
+-- other than 1: schema.unknown_field; a v of another type is parse.cbor"; "s and digest have none [no length range] either: a wrong length
+-- is parse.cbor"; "All else, and bytes left over: parse.cbor".
 use mathlib.Core.List.{List}
 use Prim.Native.Nat.{ℕ}
 use lib.Dec.{eqb}
 use lib.ListN.{length}
 use Rattle.basis.specs.Basis.{pick}
 use Rattle.basis.specs.declared.Span.{Span}
-use Rattle.cbor_strings.specs.Strings.{readRun}
+use Rattle.cbor_heads.specs.Majors.{parseCbor}
 use Rattle.cbor_strings.specs.declared.Content.{Content}
-use Rattle.cbor_strings.specs.declared.Content.the-variants.{Of as Found, Bad as NoContent}
+use Rattle.cbor_strings.specs.declared.Content.the-variants.{Bad as NoContent}
 use Rattle.cbor_values.specs.declared.Item.{Item}
-use Rattle.cbor_values.specs.declared.Item.the-variants.{End, Bad as NoItem}
-use Rattle.cbor_keys.specs.Keys.{wantedKey}
-use Rattle.cbor_keys.specs.Fields.{nameField, numberAt}
+use Rattle.cbor_values.specs.declared.Item.the-variants.{Bad as NoItem}
+use Rattle.cbor_keys.specs.Reading.{wantedKey}
+use Rattle.cbor_keys.specs.Fields.{nameField}
 use Rattle.cbor_keys.specs.Indexes.{tokenS, tokenV, tokenKid, tokenTid}
-use Rattle.cbor_keys.specs.Steps.{afterItem, afterContent, afterCount}
+use Rattle.cbor_keys.specs.Steps.{afterItem, afterContent}
 use Rattle.cbor_keys.specs.declared.Names.the-variants.{Token as TokenKeys}
 use Rattle.token_back.specs.declared.BackAt.{BackAt}
 use Rattle.token_back.specs.declared.BackParts.{BackParts}
 use Rattle.token_back.specs.declared.BackParts.the-variants.{Of, Bad}
-
--- s: any defect of the tag is parse.cbor, its length too
-abbrev pub tagBad : ℕ → ℕ → Content
-tagBad kind at = NoContent 4 at
-
-unfoldable pub tagAt : List ℕ → ℕ → Content
-tagAt s at = afterContent tagBad Found (readRun s at 2 32 32)
+use Rattle.token_back.specs.Values.{tagAt, versionAt}
 
 unfoldable pub tagField : List ℕ → ℕ → Content
 tagField s at = afterItem NoContent (tagAt s) (wantedKey TokenKeys s at tokenS)
-
--- v
-unfoldable pub versionThen : ℕ → ℕ → ℕ → Item
-versionThen at n next = pick (eqb n 1) (End next) (NoItem 6 at)
-
-unfoldable pub versionAt : List ℕ → ℕ → Item
-versionAt s at = afterCount NoItem (versionThen at) (numberAt s 0xffffffffffffffff at)
 
 unfoldable pub versionField : List ℕ → ℕ → Item
 versionField s at = afterItem NoItem (versionAt s) (wantedKey TokenKeys s at tokenV)
@@ -46,7 +34,7 @@ abbrev pub threeOf : Span → Span → Span → BackAt
 threeOf tag kid tid = record { tag = tag; kid = kid; tid = tid }
 
 unfoldable pub endThen : List ℕ → Span → Span → Span → BackParts
-endThen s tag kid tid = pick (eqb (tid .to) (length s)) (Of (threeOf tag kid tid)) (Bad 4 (tid .to))
+endThen s tag kid tid = pick (eqb (tid .to) (length s)) (Of (threeOf tag kid tid)) (Bad parseCbor (tid .to))
 
 unfoldable pub tidThen : List ℕ → Span → Span → BackParts
 tidThen s tag kid = afterContent Bad (endThen s tag kid) (nameField TokenKeys s (kid .to) tokenTid)

@@ -1,7 +1,12 @@
 // The back of a token: tag, version, kid and tid, and nothing behind them. A defect carries document 01's number and
 // the place of the item at fault.
 use basis::Span;
+use basis::limits;
 use cbor_heads::Count;
+use cbor_heads::defect::BOUNDS;
+use cbor_heads::defect::CBOR;
+use cbor_heads::defect::UNKNOWN;
+use cbor_heads::major;
 use cbor_keys::Names;
 use cbor_keys::index;
 use cbor_strings::Content;
@@ -27,8 +32,14 @@ fn tag_field(s: &[u8], at: usize) -> Content
 {
     match cbor_keys::wanted_key(s, at, Names::Token, index::TOKEN_S) {
         Item::Bad { kind, at: a } => Content::Bad { kind, at: a },
-        Item::End { next: p } => match cbor_strings::read_run(s, p, 2, 32, 32) {
-            Content::Bad { kind: _, at: a } => Content::Bad { kind: 4, at: a },
+        Item::End { next: p } => match cbor_strings::read_run(
+            s,
+            p,
+            major::BYTES,
+            limits::TAG_LENGTH,
+            limits::TAG_LENGTH,
+        ) {
+            Content::Bad { kind: _, at: a } => Content::Bad { kind: CBOR, at: a },
             Content::Of { span } => Content::Of { span },
         },
     }
@@ -42,17 +53,20 @@ fn version_field(s: &[u8], at: usize) -> Item
         Item::End { next: p } => match cbor_heads::read_count(
             s,
             p,
+            major::UNSIGNED,
             0,
-            0,
-            0xffff_ffff_ffff_ffff,
-            5,
+            limits::NUMBER_MOST,
+            BOUNDS,
         ) {
             Count::Bad { kind, at: a } => Item::Bad { kind, at: a },
             Count::Of { n, next } => {
                 if n == 1 {
                     return Item::End { next };
                 }
-                Item::Bad { kind: 6, at: p }
+                Item::Bad {
+                    kind: UNKNOWN,
+                    at: p,
+                }
             }
         },
     }
@@ -86,7 +100,7 @@ pub fn read_back(s: &[u8], at: usize) -> BackParts
                             };
                         }
                         BackParts::Bad {
-                            kind: 4,
+                            kind: CBOR,
                             at: tid.to,
                         }
                     }

@@ -11,14 +11,16 @@ use Rattle.basis.proofs.Parts.{past, on}
 use Rattle.cbor_heads.specs.Heads.{head}
 use Rattle.cbor_heads.specs.Counts.{readCount}
 use Rattle.cbor_heads.proofs.CountLaws.{head-there, there-head, count, counted}
-use Rattle.cbor_keys.specs.Keys.{keysOf, indexFrom, indexOfKey, keyAt, wantedKey}
+use Rattle.cbor_keys.specs.Keys.{keysOf}
+use Rattle.cbor_keys.specs.Reading.{indexFrom, indexOfKey, keyAt, wantedKey}
 use Rattle.cbor_keys.specs.Maps.{text}
 use Rattle.cbor_keys.specs.declared.Names.the-variants.{Caveat as CaveatKeys, T}
 use Rattle.cbor_keys.specs.declared.Key.the-variants.{Of as Known}
 use Rattle.cbor_keys.proofs.KeyLaws.{key-written, key-read, named-read, index-below, wanted-written, wanted-read}
 use Rattle.cbor_keys.proofs.StepLaws.{item-went, key-went, count-went}
 use Rattle.token_caveat.specs.Caveats.{Caveat, exp, nbf, aud, method, path-prefix, ip-cidr, bytes-le, rate, tenant, amnesia, gov-policy-digest, custom, tOf, vOf, encodeCaveat, GoodCaveat}
-use Rattle.token_caveat.specs.Reading.{valueAt, tNext, tValueThen, caveatMap, caveatOf}
+use Rattle.token_caveat.specs.Reading.{tNext, tValueThen, caveatMap, caveatOf}
+use Rattle.token_caveat.specs.Values.{valueAt}
 use Rattle.token_caveat_values.specs.declared.CaveatAt.{CaveatAt}
 use Rattle.token_caveat_values.specs.declared.CaveatParts.the-variants.{Of, Bad}
 use Rattle.token_caveat.proofs.Holds.{Holds}

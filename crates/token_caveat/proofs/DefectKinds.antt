@@ -6,7 +6,7 @@ use Prim.Native.Nat.{ℕ}
 use Rattle.basis.specs.Basis.{fromTo, between}
 use Rattle.basis.specs.declared.Span.{Span}
 use Rattle.cbor_heads.specs.Counts.{readCount}
-use Rattle.cbor_strings.specs.Strings.{readRun, readString}
+use Rattle.cbor_strings.specs.Reading.{readRun, readString}
 use Rattle.cbor_strings.specs.declared.Class.{Class}
 use Rattle.cbor_strings.specs.declared.Class.the-variants.{Hex}
 use Rattle.cbor_strings.proofs.DefectKinds.{Kind, kind-4, kind-6, count-kinds, run-kinds, string-kinds}
@@ -15,16 +15,18 @@ use Rattle.cbor_values.proofs.DefectKinds.{value-kinds}
 use Rattle.token_cidr.specs.Reading.{cidrOf}
 use Rattle.token_cidr.specs.declared.Cidr.{Cidr}
 use Rattle.token_cidr.specs.declared.Cidr.the-variants.{Of as CidrOf, Bad as NoCidr}
-use Rattle.cbor_keys.specs.Keys.{keyAt, wantedKey}
+use Rattle.cbor_keys.specs.Reading.{keyAt, wantedKey}
 use Rattle.cbor_keys.specs.Fields.{nameField, numberAt, numberField}
 use Rattle.cbor_keys.specs.declared.Names.the-variants.{Caveat as CaveatKeys, T, Rate as RateKeys, Custom as CustomKeys}
 use Rattle.cbor_keys.proofs.DefectKinds.{item-step, content-step, count-step, key-step, key-kinds, wanted-kinds, number-kinds, name-field-kinds, number-field-kinds}
 use Rattle.token_scope.specs.Methods.{methodsOf}
 use Rattle.token_scope.proofs.DefectKinds.{methods-kinds, methods-step}
 use Rattle.token_caveat_values.specs.Values.{numberThen, numberValue, textThen, textValue, digestBad, digestThen, digestValue, methodThen, methodValue}
-use Rattle.token_caveat_values.specs.Values.{cidrBy, cidrThen, cidrValue, rateThen, burstThen, rateMap, rateValue, flagThen, amnesiaValue}
-use Rattle.token_caveat_values.specs.Values.{nameThen, customEnd, customThen, nsThen, customMap, customValue}
-use Rattle.token_caveat.specs.Reading.{valueAt, tNext, tValueThen, caveatMap, caveatOf}
+use Rattle.token_caveat_values.specs.Values.{cidrBy, cidrThen, cidrValue, flagThen, amnesiaValue}
+use Rattle.token_caveat_values.specs.Maps.{rateThen, burstThen, rateMap, rateValue}
+use Rattle.token_caveat_values.specs.Maps.{nameThen, customEnd, customThen, nsThen, customMap, customValue}
+use Rattle.token_caveat.specs.Reading.{tNext, tValueThen, caveatMap, caveatOf}
+use Rattle.token_caveat.specs.Values.{valueAt}
 use Rattle.token_caveat_values.specs.declared.CaveatAt.{CaveatAt}
 use Rattle.token_caveat_values.specs.declared.CaveatParts.{CaveatParts}
 use Rattle.token_caveat_values.specs.declared.CaveatParts.the-variants.{Of, Bad}

@@ -9,7 +9,7 @@ use Rattle.basis.specs.Basis.{fromTo, between}
 use Rattle.basis.specs.declared.Span.{Span}
 use Rattle.basis.proofs.Picks.{either}
 use Rattle.cbor_heads.specs.Counts.{readCount}
-use Rattle.cbor_strings.specs.Strings.{readRun, readString}
+use Rattle.cbor_strings.specs.Reading.{readRun, readString}
 use Rattle.cbor_strings.specs.declared.Class.{Class}
 use Rattle.cbor_strings.specs.declared.Class.the-variants.{Name, Printable, Path, Hex}
 use Rattle.cbor_strings.proofs.Inside.{count-in, run-in, string-in}
@@ -18,7 +18,7 @@ use Rattle.cbor_values.proofs.Inside.{value-in}
 use Rattle.token_cidr.specs.Reading.{cidrOf}
 use Rattle.token_cidr.specs.declared.Cidr.{Cidr}
 use Rattle.token_cidr.specs.declared.Cidr.the-variants.{Of as CidrOf, Bad as NoCidr}
-use Rattle.cbor_keys.specs.Keys.{keyAt, wantedKey}
+use Rattle.cbor_keys.specs.Reading.{keyAt, wantedKey}
 use Rattle.cbor_keys.specs.Fields.{nameField, numberAt, numberField}
 use Rattle.cbor_keys.specs.declared.Names.the-variants.{Caveat as CaveatKeys, T, Rate as RateKeys, Custom as CustomKeys}
 use Rattle.cbor_keys.specs.Indexes.{ratePerS, rateBurst, customNs, customCbor, customName, caveatT, caveatV}
@@ -27,9 +27,11 @@ use Rattle.cbor_keys.proofs.Inside.{item-step, content-step, count-step, key-st
 use Rattle.token_scope.specs.Methods.{methodsOf}
 use Rattle.token_scope.proofs.Inside.{methods-in, methods-step}
 use Rattle.token_caveat_values.specs.Values.{numberThen, numberValue, textThen, textValue, digestBad, digestThen, digestValue, methodThen, methodValue}
-use Rattle.token_caveat_values.specs.Values.{cidrBy, cidrThen, cidrValue, rateThen, burstThen, rateMap, rateValue, flagThen, amnesiaValue}
-use Rattle.token_caveat_values.specs.Values.{nameThen, customEnd, customThen, nsThen, customMap, customValue}
-use Rattle.token_caveat.specs.Reading.{valueAt, tNext, tValueThen, caveatMap, caveatOf}
+use Rattle.token_caveat_values.specs.Values.{cidrBy, cidrThen, cidrValue, flagThen, amnesiaValue}
+use Rattle.token_caveat_values.specs.Maps.{rateThen, burstThen, rateMap, rateValue}
+use Rattle.token_caveat_values.specs.Maps.{nameThen, customEnd, customThen, nsThen, customMap, customValue}
+use Rattle.token_caveat.specs.Reading.{tNext, tValueThen, caveatMap, caveatOf}
+use Rattle.token_caveat.specs.Values.{valueAt}
 use Rattle.token_caveat_values.specs.declared.CaveatAt.{CaveatAt}
 use Rattle.token_caveat_values.specs.declared.CaveatAt.the-variants.{Exp, Nbf, BytesLe, Aud, PathPrefix, Tenant}
 use Rattle.token_caveat_values.specs.declared.CaveatParts.{CaveatParts}

@@ -6,3 +6,4 @@ pub mod OneCaveat
 pub mod OneAnswer
 pub mod Inside
 pub mod DefectKinds
+pub mod CaveatMap

@@ -12,7 +12,7 @@ use Rattle.basis.specs.declared.Span.{Span}
 use Rattle.basis.proofs.Parts.{on, lies}
 use Rattle.cbor_heads.specs.Heads.{head}
 use Rattle.cbor_heads.specs.Counts.{readCount}
-use Rattle.cbor_strings.specs.Strings.{readRun, readString}
+use Rattle.cbor_strings.specs.Reading.{readRun, readString}
 use Rattle.cbor_strings.specs.declared.Class.{Class}
 use Rattle.cbor_strings.specs.declared.Class.the-variants.{Name, Printable, Path, Hex}
 use Rattle.cbor_heads.proofs.CountLaws.{there-head, counted}
@@ -26,7 +26,8 @@ use Rattle.token_cidr.specs.Reading.{cidrOf}
 use Rattle.token_cidr.specs.declared.Cidr.{Cidr}
 use Rattle.token_cidr.specs.declared.Cidr.the-variants.{Of as CidrOf, Bad as NoCidr}
 use Rattle.token_cidr.proofs.TextLaws.{prefixOf, reads-text}
-use Rattle.cbor_keys.specs.Keys.{keysOf, wantedKey}
+use Rattle.cbor_keys.specs.Keys.{keysOf}
+use Rattle.cbor_keys.specs.Reading.{wantedKey}
 use Rattle.cbor_keys.specs.Fields.{nameField, numberAt, numberField}
 use Rattle.cbor_keys.specs.Maps.{text, entry}
 use Rattle.cbor_keys.specs.declared.Names.the-variants.{Rate as RateKeys, Custom as CustomKeys}
@@ -38,9 +39,10 @@ use Rattle.token_scope.specs.Methods.{methodsOf}
 use Rattle.token_scope.proofs.MethodLaws.{methods-went, methods-read}
 use Rattle.token_caveat.specs.Caveats.{Caveat, exp, nbf, aud, method, path-prefix, ip-cidr, bytes-le, rate, tenant, amnesia, gov-policy-digest, custom, vOf, GoodCaveat}
 use Rattle.token_caveat_values.specs.Values.{numberThen, numberValue, textThen, textValue, digestThen, digestValue, methodThen, methodValue}
-use Rattle.token_caveat_values.specs.Values.{cidrBy, cidrThen, cidrValue, rateThen, burstThen, rateMap, rateValue, flagThen, amnesiaValue}
-use Rattle.token_caveat_values.specs.Values.{customOf, nameThen, customEnd, customThen, nsThen, customMap, customValue}
-use Rattle.token_caveat.specs.Reading.{valueAt}
+use Rattle.token_caveat_values.specs.Values.{cidrBy, cidrThen, cidrValue, flagThen, amnesiaValue}
+use Rattle.token_caveat_values.specs.Maps.{rateThen, burstThen, rateMap, rateValue}
+use Rattle.token_caveat_values.specs.Maps.{customOf, nameThen, customEnd, customThen, nsThen, customMap, customValue}
+use Rattle.token_caveat.specs.Values.{valueAt}
 use Rattle.token_caveat_values.specs.declared.CaveatAt.{CaveatAt}
 use Rattle.token_caveat_values.specs.declared.CaveatAt.the-variants.{Exp, Nbf, Aud, Method, PathPrefix, IpCidr, BytesLe, Rate, Tenant, Amnesia, GovPolicyDigest, Custom}
 use Rattle.token_caveat_values.specs.declared.CaveatParts.the-variants.{Of, Bad}

@@ -20,7 +20,8 @@ use Rattle.cbor_values.proofs.TreeReads.{read-encoded}
 use Rattle.token_cidr.specs.Prefixes.{Prefix, decimal, prefixText, GoodPrefix}
 use Rattle.token_cidr.specs.Reading.{netOf}
 use Rattle.token_cidr.proofs.TextLaws.{text-reads}
-use Rattle.cbor_keys.specs.Keys.{keysOf, indexFrom}
+use Rattle.cbor_keys.specs.Keys.{keysOf}
+use Rattle.cbor_keys.specs.Reading.{indexFrom}
 use Rattle.cbor_keys.specs.Maps.{text, entry, GoodText}
 use Rattle.cbor_keys.specs.declared.Names.the-variants.{Rate as RateKeys, Custom as CustomKeys}
 use Rattle.cbor_keys.proofs.KeyLaws.{wanted-written}
@@ -29,9 +30,10 @@ use Rattle.cbor_keys.proofs.TextLaws.{text-written, text-held}
 use Rattle.token_scope.specs.Scopes.{encodeMethods, GoodMethods}
 use Rattle.token_scope.proofs.MethodLaws.{methods-written, methods-lie}
 use Rattle.token_caveat.specs.Caveats.{Caveat, exp, nbf, aud, method, path-prefix, ip-cidr, bytes-le, rate, tenant, amnesia, gov-policy-digest, custom, vOf, GoodName, GoodCaveat}
-use Rattle.token_caveat_values.specs.Values.{numberValue, textValue, digestValue, methodValue, cidrBy, cidrValue, burstThen, rateMap, rateValue, amnesiaValue}
-use Rattle.token_caveat_values.specs.Values.{customOf, customEnd, customThen, nsThen, customMap, customValue}
-use Rattle.token_caveat.specs.Reading.{valueAt}
+use Rattle.token_caveat_values.specs.Values.{numberValue, textValue, digestValue, methodValue, cidrBy, cidrValue, amnesiaValue}
+use Rattle.token_caveat_values.specs.Maps.{burstThen, rateMap, rateValue}
+use Rattle.token_caveat_values.specs.Maps.{customOf, customEnd, customThen, nsThen, customMap, customValue}
+use Rattle.token_caveat.specs.Values.{valueAt}
 use Rattle.token_caveat_values.specs.declared.CaveatAt.{CaveatAt}
 use Rattle.token_caveat_values.specs.declared.CaveatAt.the-variants.{Exp, Nbf, Aud, Method, PathPrefix, IpCidr, BytesLe, Rate, Tenant, Amnesia, GovPolicyDigest, Custom}
 use Rattle.token_caveat_values.specs.declared.CaveatParts.the-variants.{Of}

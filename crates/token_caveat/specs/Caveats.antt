@@ -1,10 +1,12 @@
--- What each of the twelve caveats is, which are within limits, and how one is written. Document 01, "Token bytes": "caveat: t,
--- v. Rate value: burst, per_s, each below 2^32. Custom value: ns, cbor, name"; the names of t are the interop paper's (2.3).
+-- Meaning. What each of the twelve caveats is, which are within limits, and how one is written. Document 01, "Token bytes": "caveat: t, v.
+-- Rate value: burst, per_s, each below 2^32. Custom value: ns, cbor, name"; the names of t are the interop paper's (2.3).
 use mathlib.Core.Bool.{Bool, true, false}
 use mathlib.Core.List.{List, _++_}
 use Prim.Native.Nat.{ℕ, _<_, _^_}
 use Prim.Native.String.{String}
 use Rattle.basis.specs.Basis.{ascii}
+use Rattle.basis.specs.Limits.{nameMost, audMost, digestLength, depthMost}
+use Rattle.cbor_heads.specs.Majors.{unsigned, map, simple}
 use Rattle.cbor_heads.specs.Heads.{head}
 use Rattle.cbor_strings.specs.declared.Class.the-variants.{Name, Printable, Hex}
 use Rattle.cbor_values.specs.Trees.{Value, encode, Good}
@@ -47,30 +49,30 @@ simpleOf false = 20
 simpleOf true = 21
 
 unfoldable pub vOf : Caveat → List ℕ
-vOf (exp n) = head 0 n
-vOf (nbf n) = head 0 n
+vOf (exp n) = head unsigned n
+vOf (nbf n) = head unsigned n
 vOf (aud a) = text a
 vOf (method ms) = encodeMethods ms
 vOf (path-prefix p) = text p
 vOf (ip-cidr p) = text (prefixText p)
-vOf (bytes-le n) = head 0 n
-vOf (rate per-s burst) = head 5 2 ++ (entry "burst" (head 0 burst) ++ entry "per_s" (head 0 per-s))
+vOf (bytes-le n) = head unsigned n
+vOf (rate per-s burst) = head map 2 ++ (entry "burst" (head unsigned burst) ++ entry "per_s" (head unsigned per-s))
 vOf (tenant t) = text t
-vOf (amnesia b) = head 7 (simpleOf b)
+vOf (amnesia b) = head simple (simpleOf b)
 vOf (gov-policy-digest d) = text d
-vOf (custom ns name value) = head 5 3 ++ (entry "ns" (text ns) ++ (entry "cbor" (encode value) ++ entry "name" (text name)))
+vOf (custom ns name value) = head map 3 ++ (entry "ns" (text ns) ++ (entry "cbor" (encode value) ++ entry "name" (text name)))
 
 unfoldable pub encodeCaveat : Caveat → List ℕ
-encodeCaveat c = head 5 2 ++ (entry "t" (text (ascii (tOf c))) ++ entry "v" (vOf c))
+encodeCaveat c = head map 2 ++ (entry "t" (text (ascii (tOf c))) ++ entry "v" (vOf c))
 
 -- 01: "tid, kid, tenant, ns, name: 1 to 64 of letters, digits, "-", ".", "_""
 abbrev pub GoodName : List ℕ → Type 0
-GoodName = GoodText Name 1 64
+GoodName = GoodText Name 1 nameMost
 
 unfoldable pub GoodCaveat : Caveat → Type 0
 GoodCaveat (exp n) = Number64 n
 GoodCaveat (nbf n) = Number64 n
-GoodCaveat (aud a) = GoodText Printable 1 128 a
+GoodCaveat (aud a) = GoodText Printable 1 audMost a
 GoodCaveat (method ms) = GoodMethods ms
 GoodCaveat (path-prefix p) = GoodPath p
 GoodCaveat (ip-cidr p) = GoodPrefix p
@@ -78,5 +80,5 @@ GoodCaveat (bytes-le n) = Number64 n
 GoodCaveat (rate per-s burst) = (per-s < 2 ^ 32) × (burst < 2 ^ 32)
 GoodCaveat (tenant t) = GoodName t
 GoodCaveat (amnesia b) = Unit {0}
-GoodCaveat (gov-policy-digest d) = GoodText Hex 64 64 d
-GoodCaveat (custom ns name value) = GoodName ns × GoodName name × Good value 4
+GoodCaveat (gov-policy-digest d) = GoodText Hex digestLength digestLength d
+GoodCaveat (custom ns name value) = GoodName ns × GoodName name × Good value depthMost

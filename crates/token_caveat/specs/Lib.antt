@@ -1,2 +1,4 @@
 pub mod Caveats
 pub mod Reading
+pub mod Values
+pub mod Fields

@@ -4,7 +4,8 @@ use mathlib.Core.List.{List}
 use Prim.Native.Nat.{ℕ}
 use Rattle.basis.proofs.OneAnswer.{told}
 use Rattle.cbor_strings.specs.declared.Class.{Class}
-use Rattle.token_caveat_values.specs.Values.{numberValue, textValue, digestValue, methodValue, cidrValue, rateValue, amnesiaValue, customValue}
+use Rattle.token_caveat_values.specs.Values.{numberValue, textValue, digestValue, methodValue, cidrValue, amnesiaValue}
+use Rattle.token_caveat_values.specs.Maps.{rateValue, customValue}
 use Rattle.token_caveat_values.specs.Makes.{ofNumber, ofText}
 use Rattle.token_caveat_values.specs.declared.NumberOf.{NumberOf}
 use Rattle.token_caveat_values.specs.declared.TextOf.{TextOf}

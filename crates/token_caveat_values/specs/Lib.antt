@@ -1,2 +1,4 @@
 pub mod Values
+pub mod Maps
 pub mod Makes
+pub mod Fields

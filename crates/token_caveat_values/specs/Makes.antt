@@ -1,4 +1,4 @@
--- The caveat that a number or a text is the value of, for the readers that several of them share.
+-- Inner. The caveat that a number or a text is the value of, for the readers that several of them share.
 use Prim.Native.Nat.{ℕ}
 use Rattle.basis.specs.declared.Span.{Span}
 use Rattle.cbor_strings.specs.declared.Class.{Class}

@@ -1,29 +1,26 @@
--- The one reading of a caveat's value, for each kind of value. Document 01, "Reading order": map heads, keys, strings and numbers as
--- everywhere; "s and digest have none [no length range] either: a wrong length is parse.cbor. ip_cidr has none and is judged whole as
+-- Reading. The one reading of a caveat's value, for each kind of value. Document 01, "Reading order": map heads, keys, strings and numbers
+-- as everywhere; "s and digest have none [no length range] either: a wrong length is parse.cbor. ip_cidr has none and is judged whole as
 -- content, whatever its length. .. rate number over range: parse.bounds."
 use mathlib.Core.List.{List}
 use Prim.Native.Nat.{ℕ}
 use lib.Dec.{eqb}
-use Rattle.basis.specs.Basis.{fromTo, between}
+use Rattle.basis.specs.Basis.{between}
 use Rattle.basis.specs.declared.Span.{Span}
+use Rattle.basis.specs.Limits.{numberMost, digestLength}
+use Rattle.cbor_heads.specs.Majors.{parseCbor, textString, simple}
 use Rattle.cbor_heads.specs.Counts.{readCount}
-use Rattle.cbor_strings.specs.Strings.{readRun, readString}
+use Rattle.cbor_strings.specs.Reading.{readRun, readString}
 use Rattle.cbor_strings.specs.declared.Class.{Class}
 use Rattle.cbor_strings.specs.declared.Class.the-variants.{Hex}
-use Rattle.cbor_values.specs.Reading.{valueOf}
 use Rattle.token_cidr.specs.Reading.{cidrOf}
 use Rattle.token_cidr.specs.declared.Cidr.{Cidr}
 use Rattle.token_cidr.specs.declared.Cidr.the-variants.{Of as CidrOf, Bad as NoCidr}
-use Rattle.cbor_keys.specs.Keys.{wantedKey}
-use Rattle.cbor_keys.specs.Fields.{nameField, numberAt, numberField}
-use Rattle.cbor_keys.specs.Steps.{afterItem, afterContent, afterCount}
-use Rattle.cbor_keys.specs.declared.Names.the-variants.{Rate as RateKeys, Custom as CustomKeys}
-use Rattle.cbor_keys.specs.Indexes.{rateBurst, ratePerS, customNs, customCbor, customName}
+use Rattle.cbor_keys.specs.Fields.{numberAt}
+use Rattle.cbor_keys.specs.Steps.{afterContent, afterCount}
 use Rattle.cbor_values.specs.declared.ListAt.{ListAt}
 use Rattle.token_scope.specs.Methods.{methodsOf, afterMethods}
-use Rattle.token_caveat_values.specs.declared.CustomAt.{CustomAt}
 use Rattle.token_caveat_values.specs.declared.CaveatAt.{CaveatAt}
-use Rattle.token_caveat_values.specs.declared.CaveatAt.the-variants.{Method, IpCidr, Rate, Amnesia, GovPolicyDigest, Custom}
+use Rattle.token_caveat_values.specs.declared.CaveatAt.the-variants.{Method, IpCidr, Amnesia, GovPolicyDigest}
 use Rattle.token_caveat_values.specs.declared.CaveatParts.{CaveatParts}
 use Rattle.token_caveat_values.specs.declared.CaveatParts.the-variants.{Of, Bad}
 
@@ -32,7 +29,7 @@ abbrev pub numberThen : (ℕ → CaveatAt) → ℕ → ℕ → CaveatParts
 numberThen make n next = Of (make n) next
 
 unfoldable pub numberValue : (ℕ → CaveatAt) → List ℕ → ℕ → CaveatParts
-numberValue make s at = afterCount Bad (numberThen make) (numberAt s 0xffffffffffffffff at)
+numberValue make s at = afterCount Bad (numberThen make) (numberAt s numberMost at)
 
 -- aud, path_prefix, tenant: 1 to `high` bytes of their class; `make` is the caveat of such a text
 abbrev pub textThen : (Span → CaveatAt) → Span → CaveatParts
@@ -43,13 +40,13 @@ textValue make class high s at = afterContent Bad (textThen make) (readString s 
 
 -- any defect of a digest is parse.cbor, its length too
 abbrev pub digestBad : ℕ → ℕ → CaveatParts
-digestBad kind at = Bad 4 at
+digestBad kind at = Bad parseCbor at
 
 abbrev pub digestThen : Span → CaveatParts
 digestThen part = Of (GovPolicyDigest part) (part .to)
 
 unfoldable pub digestValue : List ℕ → ℕ → CaveatParts
-digestValue s at = afterContent digestBad digestThen (readString s at Hex 64 64)
+digestValue s at = afterContent digestBad digestThen (readString s at Hex digestLength digestLength)
 
 abbrev pub methodThen : ListAt → CaveatParts
 methodThen methods = Of (Method methods) (methods .span .to)
@@ -58,53 +55,18 @@ unfoldable pub methodValue : List ℕ → ℕ → CaveatParts
 methodValue s at = afterMethods Bad methodThen (methodsOf s at)
 
 unfoldable pub cidrBy : Span → Cidr → CaveatParts
-cidrBy part NoCidr = Bad 4 (part .from)
+cidrBy part NoCidr = Bad parseCbor (part .from)
 cidrBy part (CidrOf network) = Of (IpCidr network) (part .to)
 
 abbrev pub cidrThen : List ℕ → Span → CaveatParts
 cidrThen s part = cidrBy part (cidrOf (between s part))
 
 unfoldable pub cidrValue : List ℕ → ℕ → CaveatParts
-cidrValue s at = afterContent Bad (cidrThen s) (readRun s at 3 0 0xffffffffffffffff)
-
--- burst and per_s, "each below 2^32"
-abbrev pub rateThen : ℕ → ℕ → ℕ → CaveatParts
-rateThen burst per-s next = Of (Rate per-s burst) next
-
-unfoldable pub burstThen : List ℕ → ℕ → ℕ → CaveatParts
-burstThen s burst at = afterCount Bad (rateThen burst) (numberField RateKeys s at ratePerS 0xffffffff)
-
-unfoldable pub rateMap : List ℕ → ℕ → ℕ → CaveatParts
-rateMap s n at = afterCount Bad (burstThen s) (numberField RateKeys s at rateBurst 0xffffffff)
-
-unfoldable pub rateValue : List ℕ → ℕ → CaveatParts
-rateValue s at = afterCount Bad (rateMap s) (readCount s at 5 2 2 6)
+cidrValue s at = afterContent Bad (cidrThen s) (readRun s at textString 0 numberMost)
 
 -- RFC 8949, 3.3: false is simple value 20, true is 21
 abbrev pub flagThen : ℕ → ℕ → CaveatParts
 flagThen n next = Of (Amnesia (eqb n 21)) next
 
 unfoldable pub amnesiaValue : List ℕ → ℕ → CaveatParts
-amnesiaValue s at = afterCount Bad flagThen (readCount s at 7 20 21 4)
-
--- ns, cbor, name; the value "four deep at most"
-abbrev pub customOf : Span → Span → Span → CustomAt
-customOf ns value name = record { ns = ns; value = value; name = name }
-
-abbrev pub nameThen : Span → Span → Span → CaveatParts
-nameThen ns value name = Of (Custom (customOf ns value name)) (name .to)
-
-unfoldable pub customEnd : List ℕ → Span → ℕ → ℕ → CaveatParts
-customEnd s ns value value-end = afterContent Bad (nameThen ns (fromTo value value-end)) (nameField CustomKeys s value-end customName)
-
-unfoldable pub customThen : List ℕ → Span → ℕ → CaveatParts
-customThen s ns value = afterItem Bad (customEnd s ns value) (valueOf 4 s value)
-
-unfoldable pub nsThen : List ℕ → Span → CaveatParts
-nsThen s ns = afterItem Bad (customThen s ns) (wantedKey CustomKeys s (ns .to) customCbor)
-
-unfoldable pub customMap : List ℕ → ℕ → ℕ → CaveatParts
-customMap s n at = afterContent Bad (nsThen s) (nameField CustomKeys s at customNs)
-
-unfoldable pub customValue : List ℕ → ℕ → CaveatParts
-customValue s at = afterCount Bad (customMap s) (readCount s at 5 3 3 6)
+amnesiaValue s at = afterCount Bad flagThen (readCount s at simple 20 21 parseCbor)

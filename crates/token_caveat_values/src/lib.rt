@@ -1,7 +1,12 @@
 // The values of caveats, a reader for each kind: number, text, digest, methods, address prefix, rate, flag and
 // custom value. A defect carries document 01's number and the place of the item at fault.
 use basis::Span;
+use basis::limits;
 use cbor_heads::Count;
+use cbor_heads::defect::BOUNDS;
+use cbor_heads::defect::CBOR;
+use cbor_heads::defect::UNKNOWN;
+use cbor_heads::major;
 use cbor_keys::Names;
 use cbor_keys::index;
 use cbor_strings::Class;
@@ -14,7 +19,8 @@ use token_scope::MethodsParts;
 ghost use mathlib.Core.Path.{_≡_};
 ghost use Rattle.cbor_strings.specs.declared.Class.{Class};
 ghost use Rattle.token_caveat_values.specs.Values.{numberValue, textValue, digestValue};
-ghost use Rattle.token_caveat_values.specs.Values.{methodValue, cidrValue, rateValue, amnesiaValue, nsThen, customValue};
+ghost use Rattle.token_caveat_values.specs.Values.{methodValue, cidrValue, amnesiaValue};
+ghost use Rattle.token_caveat_values.specs.Maps.{rateValue, nsThen, customValue};
 ghost use Rattle.token_caveat_values.specs.Makes.{ofNumber, ofText};
 
 // Where the parts of a custom caveat lie.
@@ -83,7 +89,7 @@ fn of_text(which: TextOf, span: Span) -> CaveatAt
 pub fn number_value(s: &[u8], at: usize, which: NumberOf) -> CaveatParts
     ensures { λ r. ⌜ r ≡ numberValue (ofNumber which) (now (s .entry)) at ⌝ }
 {
-    match cbor_heads::read_count(s, at, 0, 0, 0xffff_ffff_ffff_ffff, 5) {
+    match cbor_heads::read_count(s, at, major::UNSIGNED, 0, limits::NUMBER_MOST, BOUNDS) {
         Count::Bad { kind, at: a } => CaveatParts::Bad { kind, at: a },
         Count::Of { n, next } => {
             let caveat = of_number(which, n);
@@ -111,8 +117,14 @@ pub fn text_value(s: &[u8], at: usize, which: TextOf, class: Class, high: u64) -
 pub fn digest_value(s: &[u8], at: usize) -> CaveatParts
     ensures { λ r. ⌜ r ≡ digestValue (now (s .entry)) at ⌝ }
 {
-    match cbor_strings::read_string(s, at, Class::Hex, 64, 64) {
-        Content::Bad { kind: _, at: a } => CaveatParts::Bad { kind: 4, at: a },
+    match cbor_strings::read_string(
+        s,
+        at,
+        Class::Hex,
+        limits::DIGEST_LENGTH,
+        limits::DIGEST_LENGTH,
+    ) {
+        Content::Bad { kind: _, at: a } => CaveatParts::Bad { kind: CBOR, at: a },
         Content::Of { span } => CaveatParts::Of {
             caveat: CaveatAt::GovPolicyDigest { span },
             next: span.to,
@@ -135,13 +147,16 @@ pub fn method_value(s: &[u8], at: usize) -> CaveatParts
 pub fn cidr_value(s: &[u8], at: usize) -> CaveatParts
     ensures { λ r. ⌜ r ≡ cidrValue (now (s .entry)) at ⌝ }
 {
-    match cbor_strings::read_run(s, at, 3, 0, 0xffff_ffff_ffff_ffff) {
+    match cbor_strings::read_run(s, at, major::TEXT, 0, limits::NUMBER_MOST) {
         Content::Bad { kind, at: a } => CaveatParts::Bad { kind, at: a },
         Content::Of { span } => {
             let from = span.from;
             let to = span.to;
             match token_cidr::read_cidr(&s[from..to]) {
-                Cidr::Bad => CaveatParts::Bad { kind: 4, at: from },
+                Cidr::Bad => CaveatParts::Bad {
+                    kind: CBOR,
+                    at: from,
+                },
                 Cidr::Of { network } => CaveatParts::Of {
                     caveat: CaveatAt::IpCidr { network },
                     next: to,
@@ -154,14 +169,14 @@ pub fn cidr_value(s: &[u8], at: usize) -> CaveatParts
 pub fn rate_value(s: &[u8], at: usize) -> CaveatParts
     ensures { λ r. ⌜ r ≡ rateValue (now (s .entry)) at ⌝ }
 {
-    match cbor_heads::read_count(s, at, 5, 2, 2, 6) {
+    match cbor_heads::read_count(s, at, major::MAP, 2, 2, UNKNOWN) {
         Count::Bad { kind, at: a } => CaveatParts::Bad { kind, at: a },
         Count::Of { n: _, next: p } => match cbor_keys::number_field(
             s,
             p,
             Names::Rate,
             0,
-            0xffff_ffff,
+            limits::RATE_MOST,
         ) {
             Count::Bad { kind, at: a } => CaveatParts::Bad { kind, at: a },
             Count::Of { n: burst, next: q } => match cbor_keys::number_field(
@@ -169,7 +184,7 @@ pub fn rate_value(s: &[u8], at: usize) -> CaveatParts
                 q,
                 Names::Rate,
                 index::RATE_PER_S,
-                0xffff_ffff,
+                limits::RATE_MOST,
             ) {
                 Count::Bad { kind, at: a } => CaveatParts::Bad { kind, at: a },
                 Count::Of { n: per_s, next } => CaveatParts::Of {
@@ -184,7 +199,7 @@ pub fn rate_value(s: &[u8], at: usize) -> CaveatParts
 pub fn amnesia_value(s: &[u8], at: usize) -> CaveatParts
     ensures { λ r. ⌜ r ≡ amnesiaValue (now (s .entry)) at ⌝ }
 {
-    match cbor_heads::read_count(s, at, 7, 20, 21, 4) {
+    match cbor_heads::read_count(s, at, major::SIMPLE, 20, 21, CBOR) {
         Count::Bad { kind, at: a } => CaveatParts::Bad { kind, at: a },
         Count::Of { n, next } => CaveatParts::Of {
             caveat: CaveatAt::Amnesia { on: n == 21 },
@@ -199,7 +214,7 @@ fn custom_then(s: &[u8], ns: Span) -> CaveatParts
 {
     match cbor_keys::wanted_key(s, ns.to, Names::Custom, index::CUSTOM_CBOR) {
         Item::Bad { kind, at: a } => CaveatParts::Bad { kind, at: a },
-        Item::End { next: from } => match cbor_values::read_value(s, from, 4) {
+        Item::End { next: from } => match cbor_values::read_value(s, from, limits::DEPTH_MOST) {
             Item::Bad { kind, at: a } => CaveatParts::Bad { kind, at: a },
             Item::End { next: to } => match cbor_keys::name_field(
                 s,
@@ -226,7 +241,7 @@ fn custom_then(s: &[u8], ns: Span) -> CaveatParts
 pub fn custom_value(s: &[u8], at: usize) -> CaveatParts
     ensures { λ r. ⌜ r ≡ customValue (now (s .entry)) at ⌝ }
 {
-    match cbor_heads::read_count(s, at, 5, 3, 3, 6) {
+    match cbor_heads::read_count(s, at, major::MAP, 3, 3, UNKNOWN) {
         Count::Bad { kind, at: a } => CaveatParts::Bad { kind, at: a },
         Count::Of { n: _, next: p } => match cbor_keys::name_field(
             s,

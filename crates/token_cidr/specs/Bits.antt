@@ -1,4 +1,4 @@
--- "First n bits agree" (document 01, "What holds when"), over strings of bytes of any length.
+-- Meaning. "First n bits agree" (document 01, "What holds when"), over strings of bytes of any length.
 use mathlib.Core.Path.{_≡_}
 use mathlib.Core.Bool.{Bool, true, false}
 use mathlib.Core.List.{List, [], _∷_, _++_}

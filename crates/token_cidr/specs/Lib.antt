@@ -1,3 +1,4 @@
 pub mod Bits
 pub mod Prefixes
 pub mod Reading
+pub mod Inner

@@ -1,4 +1,4 @@
--- An IPv4 prefix and its one text. Document 01, "Token bytes": "ip_cidr: IPv4 a.b.c.d/n, decimal without leading zeros, n 0 to 32,
+-- Meaning. An IPv4 prefix and its one text. Document 01, "Token bytes": "ip_cidr: IPv4 a.b.c.d/n, decimal without leading zeros, n 0 to 32,
 -- bits past n zero."
 use mathlib.Core.Path.{_≡_}
 use mathlib.Core.List.{List, [], _∷_, _++_}

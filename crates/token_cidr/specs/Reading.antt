@@ -1,6 +1,7 @@
--- The one reading of a prefix's text, judged whole: a prefix, or none.
+-- Reading. Need not be believed: the laws fix it both ways (`text-reads`, `reads-text`), since it has one defect. The one reading of a
+-- prefix's text, judged whole: a prefix, or none.
 use mathlib.Core.List.{List, [], _∷_}
-use Prim.Native.Nat.{ℕ, _+_, _-_, _*_, _%_, _^_, _≤_}
+use Prim.Native.Nat.{ℕ, _+_, _-_, _*_, _%_, _^_}
 use lib.Dec.{ltb, eqb}
 use lib.ListN.{length, drop, getD}
 use Rattle.basis.specs.Basis.{pick}
@@ -52,14 +53,6 @@ sizeAt s at = sizeBy s (decimalAt s at)
 unfoldable pub afterDecimal : Decimal → (ℕ → ℕ → Cidr) → Cidr
 afterDecimal No f = Bad
 afterDecimal (Got v next) f = f v next
-
--- what the parts that were read keep
-pub record Bytes4 (a b c d n : ℕ) : Type 0 where
-  pub a-byte : a ≤ 255
-  pub b-byte : b ≤ 255
-  pub c-byte : c ≤ 255
-  pub d-byte : d ≤ 255
-  pub short : n ≤ 32
 
 -- the address's bytes in written order, and how many of its bits count
 abbrev pub netOf : ℕ → ℕ → ℕ → ℕ → ℕ → Network

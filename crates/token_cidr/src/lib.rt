@@ -5,7 +5,8 @@ ghost use Prim.Native.Nat.{_-_, _%_, _^_};
 ghost use lib.Dec.{eqb};
 ghost use Rattle.token_cidr.specs.Bits.{agreeOf};
 ghost use Rattle.token_cidr.specs.Prefixes.{addressOf};
-ghost use Rattle.token_cidr.specs.Reading.{digitAt, decimalAt, partAt, sizeAt, cidrOf, Bytes4};
+ghost use Rattle.token_cidr.specs.Reading.{digitAt, decimalAt, partAt, sizeAt, cidrOf};
+ghost use Rattle.token_cidr.specs.Inner.{Bytes4};
 
 pub enum Decimal {
     Got { value: u32, next: usize },

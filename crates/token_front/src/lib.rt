@@ -1,7 +1,11 @@
 // The front of a token: the map's head, the caveats where they lie, and the scope. A defect carries document 01's
 // number and the place of the item at fault.
 use basis::Span;
+use basis::limits;
 use cbor_heads::Count;
+use cbor_heads::defect::BOUNDS;
+use cbor_heads::defect::UNKNOWN;
+use cbor_heads::major;
 use cbor_keys::Names;
 use cbor_keys::index;
 use cbor_values::Item;
@@ -12,7 +16,8 @@ ghost use mathlib.Core.Path.{_≡_};
 ghost use lib.ListN.{drop};
 ghost use Rattle.cbor_values.specs.Reading.{itemsOf};
 ghost use Rattle.token_caveat.specs.Reading.{caveatOf};
-ghost use Rattle.token_front.specs.Front.{caveatEnd, caveatsThen, frontOf};
+ghost use Rattle.token_front.specs.Front.{caveatsThen, frontOf};
+ghost use Rattle.token_front.specs.Ends.{caveatEnd};
 
 // Where the caveats and the scope lie.
 pub struct FrontAt {
@@ -92,7 +97,7 @@ fn caveats_then(s: &[u8], count: u64, from: usize) -> FrontParts
 pub fn read_front(s: &[u8]) -> FrontParts
     ensures { λ r. ⌜ r ≡ frontOf (now (s .entry)) ⌝ }
 {
-    match cbor_heads::read_count(s, 0, 5, 6, 6, 6) {
+    match cbor_heads::read_count(s, 0, major::MAP, 6, 6, UNKNOWN) {
         Count::Bad { kind, at: a } => FrontParts::Bad { kind, at: a },
         Count::Of { n: _, next: p } => match cbor_keys::wanted_key(
             s,
@@ -101,7 +106,14 @@ pub fn read_front(s: &[u8]) -> FrontParts
             index::TOKEN_C,
         ) {
             Item::Bad { kind, at: a } => FrontParts::Bad { kind, at: a },
-            Item::End { next: q } => match cbor_heads::read_count(s, q, 4, 0, 64, 5) {
+            Item::End { next: q } => match cbor_heads::read_count(
+                s,
+                q,
+                major::ARRAY,
+                0,
+                limits::CAVEATS_MOST,
+                BOUNDS,
+            ) {
                 Count::Bad { kind, at: a } => FrontParts::Bad { kind, at: a },
                 Count::Of {
                     n: count,

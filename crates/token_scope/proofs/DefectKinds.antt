@@ -6,7 +6,7 @@ use Prim.Native.Nat.{ℕ, _-_}
 use lib.Dec.{eqb, ltb}
 use Rattle.basis.proofs.Picks.{either}
 use Rattle.cbor_heads.specs.Counts.{readCount}
-use Rattle.cbor_strings.specs.Strings.{readString}
+use Rattle.cbor_strings.specs.Reading.{readString}
 use Rattle.cbor_strings.specs.declared.Class.the-variants.{Path, Upper}
 use Rattle.cbor_heads.specs.declared.Count.{Count}
 use Rattle.cbor_heads.specs.declared.Count.the-variants.{Of as Counted, Bad as NoCount}
@@ -17,7 +17,7 @@ use Rattle.cbor_values.specs.Reading.{itemsOf}
 use Rattle.cbor_values.specs.declared.Item.{Item}
 use Rattle.cbor_values.specs.declared.Item.the-variants.{End, Bad as NoItem}
 use Rattle.cbor_values.proofs.DefectKinds.{ItemKind, items-kinds}
-use Rattle.cbor_keys.specs.Keys.{keyAt, wantedKey}
+use Rattle.cbor_keys.specs.Reading.{keyAt, wantedKey}
 use Rattle.cbor_keys.specs.Fields.{numberField}
 use Rattle.cbor_keys.specs.declared.Names.the-variants.{Scope}
 use Rattle.cbor_keys.proofs.DefectKinds.{item-step, content-step, count-step, key-step, key-kinds, wanted-kinds, number-field-kinds}

@@ -7,3 +7,4 @@ pub mod OneScope
 pub mod Inside
 pub mod OneAnswer
 pub mod DefectKinds
+pub mod ScopeMap

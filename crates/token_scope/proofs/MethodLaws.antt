@@ -11,7 +11,7 @@ use Rattle.basis.proofs.Parts.{past, ends}
 use Rattle.cbor_values.specs.Lists.{listOf}
 use Rattle.cbor_values.specs.declared.ListAt.{ListAt}
 use Rattle.cbor_heads.specs.Heads.{head}
-use Rattle.cbor_strings.specs.Strings.{readString}
+use Rattle.cbor_strings.specs.Reading.{readString}
 use Rattle.cbor_heads.specs.Counts.{readCount}
 use Rattle.cbor_strings.specs.declared.Class.the-variants.{Upper}
 use Rattle.cbor_heads.specs.declared.Count.{Count}

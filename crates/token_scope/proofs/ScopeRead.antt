@@ -12,12 +12,13 @@ use Rattle.basis.specs.Basis.{pick, ascii, IsBytes}
 use Rattle.basis.proofs.Parts.{on}
 use Rattle.basis.proofs.Held.{PartHeld}
 use Rattle.cbor_heads.specs.Heads.{head}
-use Rattle.cbor_strings.specs.Strings.{readString}
+use Rattle.cbor_strings.specs.Reading.{readString}
 use Rattle.cbor_heads.specs.Counts.{readCount}
 use Rattle.cbor_strings.specs.declared.Class.the-variants.{Path}
 use Rattle.cbor_heads.specs.declared.Count.the-variants.{Of as Counted}
 use Rattle.cbor_heads.proofs.CountLaws.{there-head, counted}
-use Rattle.cbor_keys.specs.Keys.{keysOf, keyAt, wantedKey}
+use Rattle.cbor_keys.specs.Keys.{keysOf}
+use Rattle.cbor_keys.specs.Reading.{keyAt, wantedKey}
 use Rattle.cbor_keys.specs.Fields.{numberField}
 use Rattle.cbor_keys.specs.Maps.{text, texts, entryIf, present, IfPresent}
 use Rattle.cbor_keys.specs.Steps.{afterItem, afterKey, afterCount}

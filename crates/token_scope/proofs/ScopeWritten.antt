@@ -14,7 +14,8 @@ use Rattle.basis.proofs.Parts.{past, ends}
 use Rattle.cbor_heads.specs.Heads.{head}
 use Rattle.cbor_strings.specs.declared.Class.the-variants.{Path}
 use Rattle.cbor_heads.proofs.CountLaws.{head-there, count}
-use Rattle.cbor_keys.specs.Keys.{keysOf, indexFrom}
+use Rattle.cbor_keys.specs.Keys.{keysOf}
+use Rattle.cbor_keys.specs.Reading.{indexFrom}
 use Rattle.cbor_keys.specs.Maps.{text, entryIf, present, IfPresent}
 use Rattle.cbor_keys.specs.declared.Names.the-variants.{Scope as ScopeKeys}
 use Rattle.cbor_keys.proofs.KeyLaws.{key-written, wanted-written}

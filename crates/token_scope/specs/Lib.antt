@@ -1,3 +1,4 @@
 pub mod Scopes
 pub mod Methods
 pub mod Reading
+pub mod Fields

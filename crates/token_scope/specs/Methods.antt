@@ -1,9 +1,9 @@
--- The one reading of a method list. Document 01: "Method lists: 0 to 16 of 1 to 16 letters A-Z; order and repeats are kept", and
--- "Array count over its limit .. parse.bounds".
+-- Reading. The one reading of a method list. Document 01: "Method lists: 0 to 16 of 1 to 16 letters A-Z; order and repeats are kept", and
+-- "Array count over its limit .. parse.bounds". From the top: the array's head and its count; then each method, a string.
 use mathlib.Core.List.{List}
 use Prim.Native.Nat.{ℕ}
-use Rattle.cbor_heads.specs.Counts.{readCount}
-use Rattle.cbor_strings.specs.Strings.{readString}
+use Rattle.cbor_heads.specs.Counts.{readCount, arrayUpTo}
+use Rattle.cbor_strings.specs.Reading.{readString}
 use Rattle.cbor_strings.specs.declared.Class.the-variants.{Upper}
 use Rattle.cbor_heads.specs.declared.Count.{Count}
 use Rattle.cbor_heads.specs.declared.Count.the-variants.{Of as Counted, Bad as NoCount}
@@ -15,6 +15,7 @@ use Rattle.cbor_values.specs.declared.Item.the-variants.{End, Bad as NoItem}
 use Rattle.cbor_values.specs.Lists.{listOf}
 use Rattle.cbor_values.specs.declared.ListAt.{ListAt}
 use Rattle.basis.specs.Basis.{fromTo}
+use Rattle.basis.specs.Limits.{methodMost, methodsMost}
 use Rattle.token_scope.specs.declared.MethodsParts.{MethodsParts}
 use Rattle.token_scope.specs.declared.MethodsParts.the-variants.{Of, Bad}
 
@@ -23,7 +24,7 @@ endOf (Found part) = End (part .to)
 endOf (NoContent kind at) = NoItem kind at
 
 abbrev pub methodAt : List ℕ → ℕ → Item
-methodAt s at = endOf (readString s at Upper 1 16)
+methodAt s at = endOf (readString s at Upper 1 methodMost)
 
 -- how many there are, where the first begins and where the last ends
 unfoldable pub methodsTo : ℕ → ℕ → Item → MethodsParts
@@ -35,7 +36,7 @@ methodsBy s (NoCount kind at) = Bad kind at
 methodsBy s (Counted count from) = methodsTo count from (itemsOf (methodAt s) count from)
 
 abbrev pub methodsOf : List ℕ → ℕ → MethodsParts
-methodsOf s at = methodsBy s (readCount s at 4 0 16 5)
+methodsOf s at = methodsBy s (arrayUpTo methodsMost s at)
 
 -- a step of a reading that is a method list; see Steps
 abbrev pub afterMethods : {A : Type 0} → (ℕ → ℕ → A) → (ListAt → A) → MethodsParts → A

@@ -1,14 +1,15 @@
--- The one reading of a scope. Document 01, "Reading order": "A map with more entries than it has known keys: schema.unknown_field;
--- fewer than it requires: parse.cbor. Its key not known: schema.unknown_field; known but repeated, out of order, or with a required
--- key passed over or absent at the end: parse.cbor." Of the keys prefix (0), methods (1) and max_bytes (2) only methods is required.
+-- Reading. Need not be believed: it is `readMap` with `scopeFields` (`scope-map`), and the laws fix its parts. The one reading of a scope.
+-- Document 01, "Reading order": "A map with more entries than it has known keys: schema.unknown_field; fewer than it requires: parse.cbor.
+-- Its key not known: schema.unknown_field; known but repeated, out of order, or with a required key passed over or absent at the end:
+-- parse.cbor." Of the keys prefix (0), methods (1) and max_bytes (2) only methods is required.
 use mathlib.Core.List.{List}
 use Prim.Native.Nat.{ℕ, _-_}
 use lib.Dec.{eqb, ltb}
 use Rattle.basis.specs.Basis.{pick}
-use Rattle.cbor_heads.specs.Counts.{readCount}
-use Rattle.cbor_strings.specs.Strings.{readString}
+use Rattle.cbor_heads.specs.Counts.{readCount, mapWith}
+use Rattle.cbor_strings.specs.Reading.{readString}
 use Rattle.cbor_strings.specs.declared.Class.the-variants.{Path}
-use Rattle.cbor_keys.specs.Keys.{keyAt, wantedKey}
+use Rattle.cbor_keys.specs.Reading.{keyAt, wantedKey}
 use Rattle.cbor_keys.specs.Fields.{numberField}
 use Rattle.cbor_keys.specs.Steps.{afterItem, afterContent, afterCount, afterKey}
 use Rattle.cbor_keys.specs.declared.Names.the-variants.{Scope}
@@ -16,6 +17,9 @@ use Rattle.token_scope.specs.Methods.{methodsOf, afterMethods}
 use Rattle.basis.specs.declared.Span.{Span}
 use Rattle.basis.specs.declared.Part.{Part}
 use Rattle.basis.specs.declared.Part.the-variants.{Absent, At}
+use Rattle.basis.specs.Limits.{pathMost, numberMost}
+use Rattle.cbor_keys.specs.Indexes.{scopePrefix, scopeMethods, scopeMaxBytes}
+use Rattle.cbor_heads.specs.Majors.{parseCbor}
 use Rattle.cbor_values.specs.declared.ListAt.{ListAt}
 use Rattle.token_scope.specs.declared.Limit.{Limit}
 use Rattle.token_scope.specs.declared.Limit.the-variants.{Absent as NoLimit, Of as AtMost}
@@ -29,7 +33,7 @@ threeParts prefix methods limit = record { prefix = prefix; methods = methods; �
 
 -- a key behind max_bytes, which is the last one
 unfoldable pub anotherThen : ℕ → ℕ → ℕ → ScopeParts
-anotherThen at index next = Bad 4 at
+anotherThen at index next = Bad parseCbor at
 
 unfoldable pub maxBytesThen : List ℕ → Part → ListAt → ℕ → ℕ → ℕ → ScopeParts
 maxBytesThen s prefix methods left n next =
@@ -39,7 +43,7 @@ maxBytesThen s prefix methods left n next =
 unfoldable pub limitThen : List ℕ → Part → ListAt → ℕ → ScopeParts
 limitThen s prefix methods left =
     pick (eqb left 0) (Of (threeParts prefix methods NoLimit) (methods .span .to))
-    (afterCount Bad (maxBytesThen s prefix methods left) (numberField Scope s (methods .span .to) 2 0xffffffffffffffff))
+    (afterCount Bad (maxBytesThen s prefix methods left) (numberField Scope s (methods .span .to) scopeMaxBytes numberMost))
 
 abbrev pub methodsNext : List ℕ → Part → ℕ → ListAt → ScopeParts
 methodsNext s prefix left methods = limitThen s prefix methods left
@@ -51,20 +55,20 @@ methodsThen s prefix left at = afterMethods Bad (methodsNext s prefix left) (met
 -- behind the prefix, in a map of n entries at `at`
 unfoldable pub prefixNext : List ℕ → ℕ → ℕ → Span → ScopeParts
 prefixNext s at n prefix =
-    pick (ltb n 2) (Bad 4 at) (afterItem Bad (methodsThen s (At prefix) (n - 2)) (wantedKey Scope s (prefix .to) 1))
+    pick (ltb n 2) (Bad parseCbor at) (afterItem Bad (methodsThen s (At prefix) (n - 2)) (wantedKey Scope s (prefix .to) scopeMethods))
 
 unfoldable pub prefixThen : List ℕ → ℕ → ℕ → ℕ → ScopeParts
-prefixThen s at n next = afterContent Bad (prefixNext s at n) (readString s next Path 1 256)
+prefixThen s at n next = afterContent Bad (prefixNext s at n) (readString s next Path 1 pathMost)
 
 unfoldable pub firstThen : List ℕ → ℕ → ℕ → ℕ → ℕ → ℕ → ScopeParts
 firstThen s at n p index next =
-    pick (eqb index 0) (prefixThen s at n next) (pick (eqb index 1) (methodsThen s Absent (n - 1) next) (Bad 4 p))
+    pick (eqb index scopePrefix) (prefixThen s at n next) (pick (eqb index scopeMethods) (methodsThen s Absent (n - 1) next) (Bad parseCbor p))
 
 unfoldable pub entriesThen : List ℕ → ℕ → ℕ → ℕ → ScopeParts
 entriesThen s at n p = afterKey Bad (firstThen s at n p) (keyAt Scope s p)
 
 unfoldable pub scopeOf : List ℕ → ℕ → ScopeParts
-scopeOf s at = afterCount Bad (entriesThen s at) (readCount s at 5 1 3 6)
+scopeOf s at = afterCount Bad (entriesThen s at) (mapWith 1 3 s at)
 
 -- a step of a reading that is a scope; see Steps
 abbrev pub afterScope : {A : Type 0} → (ℕ → ℕ → A) → (ScopeAt → ℕ → A) → ScopeParts → A

@@ -1,9 +1,10 @@
--- What a scope is, which scopes are within limits, and how one is written. Document 01, "Token bytes": "scope r: prefix (may be
+-- Meaning. What a scope is, which scopes are within limits, and how one is written. Document 01, "Token bytes": "scope r: prefix (may be
 -- absent), methods, max_bytes (may be absent)".
 use mathlib.Core.List.{List, [], _∷_, _++_}
 use mathlib.Core.Option.{Option}
 use Prim.Native.Nat.{ℕ, _+_, _<_, _≤_, _^_}
 use lib.ListN.{length}
+use Rattle.basis.specs.Limits.{methodMost, methodsMost, pathMost}
 use Rattle.cbor_heads.specs.Heads.{head}
 use Rattle.cbor_strings.specs.declared.Class.the-variants.{Path, Upper}
 use Rattle.cbor_keys.specs.Maps.{text, texts, entry, entryIf, present, IfPresent, GoodText}
@@ -27,16 +28,16 @@ encodeScope s =
 -- 01: "1 to 16 letters A-Z"
 unfoldable pub AllMethods : List (List ℕ) → Type 0
 AllMethods [] = Unit {0}
-AllMethods (m ∷ ms) = GoodText Upper 1 16 m × AllMethods ms
+AllMethods (m ∷ ms) = GoodText Upper 1 methodMost m × AllMethods ms
 
 -- 01: "Method lists: 0 to 16 of" these
 pub record GoodMethods (ms : List (List ℕ)) : Type 0 where
-  pub few : length ms ≤ 16
+  pub few : length ms ≤ methodsMost
   pub each : AllMethods ms
 
 -- 01: "Prefix and path_prefix: 1 to 256 such bytes, first "/""
 abbrev pub GoodPath : List ℕ → Type 0
-GoodPath = GoodText Path 1 256
+GoodPath = GoodText Path 1 pathMost
 
 -- 01: "any unsigned 64-bit number"
 abbrev pub Number64 : ℕ → Type 0

@@ -2,9 +2,15 @@
 // and a place in it; a defect carries document 01's number and the place of the item at fault.
 use basis::Part;
 use basis::Span;
+use basis::limits;
 use cbor_heads::Count;
+use cbor_heads::defect::BOUNDS;
+use cbor_heads::defect::CBOR;
+use cbor_heads::defect::UNKNOWN;
+use cbor_heads::major;
 use cbor_keys::Key;
 use cbor_keys::Names;
+use cbor_keys::index;
 use cbor_strings::Class;
 use cbor_strings::Content;
 use cbor_values::Item;
@@ -41,7 +47,7 @@ pub enum ScopeParts {
 fn method_at(s: &[u8], at: usize) -> Item
     ensures { λ r. ⌜ r ≡ methodAt (now (s .entry)) at ⌝ }
 {
-    match cbor_strings::read_string(s, at, Class::Upper, 1, 16) {
+    match cbor_strings::read_string(s, at, Class::Upper, 1, limits::METHOD_MOST) {
         Content::Of { span } => Item::End { next: span.to },
         Content::Bad { kind, at: a } => Item::Bad { kind, at: a },
     }
@@ -69,7 +75,7 @@ fn methods_end(s: &[u8], from: usize, count: u64) -> Item
 pub fn read_methods(s: &[u8], at: usize) -> MethodsParts
     ensures { λ r. ⌜ r ≡ methodsOf (now (s .entry)) at ⌝ }
 {
-    let count = cbor_heads::read_count(s, at, 4, 0, 16, 5);
+    let count = cbor_heads::read_count(s, at, major::ARRAY, 0, limits::METHODS_MOST, BOUNDS);
     match count {
         Count::Bad { kind, at: a } => MethodsParts::Bad { kind, at: a },
         Count::Of { n, next: from } => match methods_end(s, from, n) {
@@ -99,7 +105,13 @@ fn limit_then(s: &[u8], prefix: Part, methods: ListAt, left: u64) -> ScopeParts
             next: to,
         };
     }
-    match cbor_keys::number_field(s, to, Names::Scope, 2, 0xffff_ffff_ffff_ffff) {
+    match cbor_keys::number_field(
+        s,
+        to,
+        Names::Scope,
+        index::SCOPE_MAX_BYTES,
+        limits::NUMBER_MOST,
+    ) {
         Count::Bad { kind, at: a } => ScopeParts::Bad { kind, at: a },
         Count::Of { n, next } => {
             if left == 1 {
@@ -115,7 +127,10 @@ fn limit_then(s: &[u8], prefix: Part, methods: ListAt, left: u64) -> ScopeParts
             // max_bytes is the last key, so that whatever is known is out of its place
             match cbor_keys::key_at(s, next, Names::Scope) {
                 Key::Bad { kind, at: a } => ScopeParts::Bad { kind, at: a },
-                Key::Of { index: _, next: _ } => ScopeParts::Bad { kind: 4, at: next },
+                Key::Of { index: _, next: _ } => ScopeParts::Bad {
+                    kind: CBOR,
+                    at: next,
+                },
             }
         }
     }
@@ -135,11 +150,11 @@ fn methods_then(s: &[u8], at: usize, prefix: Part, left: u64) -> ScopeParts
 fn prefix_then(s: &[u8], at: usize, n: u64, next: usize) -> ScopeParts
     ensures { λ r. ⌜ r ≡ prefixThen (now (s .entry)) at n next ⌝ }
 {
-    match cbor_strings::read_string(s, next, Class::Path, 1, 256) {
+    match cbor_strings::read_string(s, next, Class::Path, 1, limits::PATH_MOST) {
         Content::Bad { kind, at: a } => ScopeParts::Bad { kind, at: a },
         Content::Of { span } => {
             if n < 2 {
-                return ScopeParts::Bad { kind: 4, at };
+                return ScopeParts::Bad { kind: CBOR, at };
             }
             match cbor_keys::wanted_key(s, span.to, Names::Scope, 1) {
                 Item::Bad { kind, at: a } => ScopeParts::Bad { kind, at: a },
@@ -152,7 +167,7 @@ fn prefix_then(s: &[u8], at: usize, n: u64, next: usize) -> ScopeParts
 pub fn read_scope(s: &[u8], at: usize) -> ScopeParts
     ensures { λ r. ⌜ r ≡ scopeOf (now (s .entry)) at ⌝ }
 {
-    match cbor_heads::read_count(s, at, 5, 1, 3, 6) {
+    match cbor_heads::read_count(s, at, major::MAP, 1, 3, UNKNOWN) {
         Count::Bad { kind, at: a } => ScopeParts::Bad { kind, at: a },
         Count::Of { n, next: p } => match cbor_keys::key_at(s, p, Names::Scope) {
             Key::Bad { kind, at: a } => ScopeParts::Bad { kind, at: a },
@@ -163,7 +178,7 @@ pub fn read_scope(s: &[u8], at: usize) -> ScopeParts
                 if index == 1 {
                     return methods_then(s, next, Part::Absent, n - 1);
                 }
-                ScopeParts::Bad { kind: 4, at: p }
+                ScopeParts::Bad { kind: CBOR, at: p }
             }
         },
     }

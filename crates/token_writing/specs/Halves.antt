@@ -1,4 +1,4 @@
--- A token's bytes in the two halves in which they are written, and how many there are.
+-- Inner. A token's bytes in the two halves in which they are written, and how many there are.
 use mathlib.Core.List.{List, _++_}
 use Prim.Native.Nat.{ℕ, _+_}
 use lib.ListN.{length}

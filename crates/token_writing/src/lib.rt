@@ -1,5 +1,6 @@
 // Tokens written into room: the bytes of a fresh token around a scope, and of a child around its parent's
 // parts and one caveat more. The room is asked for first, so that a refusal leaves it as it was.
+use cbor_heads::major;
 ghost use mathlib.Core.Path.{_≡_};
 ghost use mathlib.Core.List.{_++_};
 ghost use Prim.Native.Nat.{_+_, _≤_, min};
@@ -43,7 +44,7 @@ fn put_front(room: &mut [u8], count: u64, caveats: &[u8], caveat: &[u8], scope: 
     ensures { λ r. ⌜ Placed (frontBytes count (now (caveats .entry)) (now (caveat .entry)) (now (scope .entry))) (now (room .entry)) 0 r (now (room .exit)) ⌝ }
 {
     let a = cbor_writing::put_at(room, 0, b"\xa6\x61c");
-    let b = cbor_writing::put_head(room, a, 4, count);
+    let b = cbor_writing::put_head(room, a, major::ARRAY, count);
     let c = cbor_writing::put_at(room, b, caveats);
     let d = cbor_writing::put_at(room, c, caveat);
     let e = cbor_writing::put_at(room, d, b"\x61r");
@@ -56,11 +57,11 @@ fn put_back(room: &mut [u8], at: usize, tag: &[u8], kid: &[u8], tid: &[u8]) -> u
     ensures { λ r. ⌜ Placed (backBytes (now (tag .entry)) (now (kid .entry)) (now (tid .entry))) (now (room .entry)) at r (now (room .exit)) ⌝ }
 {
     let a = cbor_writing::put_at(room, at, b"\x61s");
-    let b = cbor_writing::put_string(room, a, 2, tag);
+    let b = cbor_writing::put_string(room, a, major::BYTES, tag);
     let c = cbor_writing::put_at(room, b, b"\x61v\x01\x63kid");
-    let d = cbor_writing::put_string(room, c, 3, kid);
+    let d = cbor_writing::put_string(room, c, major::TEXT, kid);
     let e = cbor_writing::put_at(room, d, b"\x63tid");
-    cbor_writing::put_string(room, e, 3, tid)
+    cbor_writing::put_string(room, e, major::TEXT, tid)
 }
 
 // A token around its parts, with `count` caveats: those of `caveats`, and behind them `caveat`. It answers

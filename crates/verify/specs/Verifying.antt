@@ -1,10 +1,12 @@
--- Verify, check by check. Document 01, "Numbers and names": "Verify: 1, 2, text over 5,462 characters (5), 3, reading (4 to 6), 7, 8, 9,
--- scope method, path, bytes (10 to 12), caveats in token order." What stands behind 7 is in Walking of `verify_walk`.
+-- Reading. Need not be believed: the demands' theorems fix it. Verify, check by check. Document 01, "Numbers and names": "Verify: 1, 2,
+-- text over 5,462 characters (5), 3, reading (4 to 6), 7, 8, 9, scope method, path, bytes (10 to 12), caveats in token order." What stands
+-- behind 7 is in Walking of `verify_walk`.
 use mathlib.Core.List.{List}
 use Prim.Native.Nat.{ℕ}
 use lib.Dec.{eqb, ltb}
 use lib.ListN.{length}
 use Rattle.basis.specs.Basis.{pick, between}
+use Rattle.basis.specs.Limits.{keyLength, rowsMost, textMost, tokenMost}
 use Rattle.text_reading.specs.Reading.{judgedOf, bytesOf, decodedOf}
 use Rattle.text_reading.specs.declared.Decoded.{Decoded}
 use Rattle.text_reading.specs.declared.Decoded.the-variants.{Bytes, Bad as NoText, Short}
@@ -21,10 +23,10 @@ use Rattle.verify_walk.specs.Walking.{keyJudged}
 
 -- 7: keys are 32 bytes, and none is found where there is no such row
 unfoldable pub keyFound : List ℕ → List ℕ → TokenAt → List ℕ → RequestAt → ℕ
-keyFound key s p body q = pick (eqb (length key) 32) (keyJudged key s p body q) 7
+keyFound key s p body q = pick (eqb (length key) keyLength) (keyJudged key s p body q) 7
 
 abbrev pub keyOf : List ℕ → List ℕ → TokenAt → List ℕ
-keyOf table s p = findFrom 64 table (between s (p .tid)) (between s (p .kid)) 0
+keyOf table s p = findFrom rowsMost table (between s (p .tid)) (between s (p .kid)) 0
 
 -- 4 to 6
 unfoldable pub tokenJudged : List ℕ → List ℕ → List ℕ → RequestAt → TokenParts → ℕ
@@ -42,7 +44,7 @@ decodedJudged table text body q (Bytes n) = bytesJudged table (bytesOf text) bod
 
 -- "text over 5,462 characters (5)", before any character is looked at
 unfoldable pub textJudged : List ℕ → List ℕ → List ℕ → RequestAt → ℕ
-textJudged table text body q = pick (ltb 5462 (length text)) 5 (decodedJudged table text body q (decodedOf (judgedOf text) 4096))
+textJudged table text body q = pick (ltb textMost (length text)) 5 (decodedJudged table text body q (decodedOf (judgedOf text) tokenMost))
 
 -- 2
 unfoldable pub requestJudged : List ℕ → List ℕ → List ℕ → RequestParts → ℕ

@@ -1,5 +1,6 @@
 // Tokens judged: verify takes any bytes, judges them itself, and answers a number of the one list, in
 // document 01's order.
+use basis::limits;
 use records_request::RequestAt;
 use records_request::RequestParts;
 use text_reading::Decoded;
@@ -19,7 +20,7 @@ fn judge_bytes(table: &[u8], s: &[u8], body: &[u8], request: RequestAt) -> u32
             let tid = token.tid;
             let kid = token.kid;
             let key = records_table::find(table, basis::lend(s, tid), basis::lend(s, kid));
-            if key.len() == 32 {
+            if key.len() == limits::KEY_LENGTH {
                 return verify_walk::with_key(key, s, token, body, request);
             }
             7
@@ -30,7 +31,7 @@ fn judge_bytes(table: &[u8], s: &[u8], body: &[u8], request: RequestAt) -> u32
 fn judge_text(table: &[u8], text: &[u8], body: &[u8], request: RequestAt) -> u32
     ensures { λ r. ⌜ r ≡ textJudged (now (table .entry)) (now (text .entry)) (now (body .entry)) request ⌝ }
 {
-    if 5462 < text.len() {
+    if limits::TEXT_MOST < text.len() {
         return 5;
     }
     let mut room: [u8; 4096] = [0; 4096];

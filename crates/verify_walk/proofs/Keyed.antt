@@ -8,7 +8,7 @@ use borrow.Author.Tests.{eq-eqb, ne-eqb}
 use lib.ListN.{length-drop, length-take}
 use Rattle.basis.specs.Basis.{between}
 use Rattle.basis.specs.Same.{sameOf}
-use Rattle.hash_chain.specs.Chain.{FirstOf}
+use Rattle.hash_chain.specs.Inner.{FirstOf}
 use Rattle.records_request.specs.declared.RequestAt.{RequestAt}
 use Rattle.token.specs.declared.TokenAt.{TokenAt}
 use Rattle.verify_walk.specs.Walking.{soFar, walkedOf, scopeAnswered, tenantJudged, tagJudged, linkFirst, keyJudged}

@@ -9,9 +9,9 @@ use lib.Dec.{leb}
 use lib.ListN.{length, take, drop, length-drop, length-take, drop-of-length-le}
 use lib.Seq.{take-all}
 use Rattle.basis.specs.Basis.{fromTo, between}
-use Rattle.cbor_heads.specs.Heads.{headAt}
+use Rattle.cbor_heads.specs.Reading.{headAt}
 use Rattle.cbor_heads.specs.Counts.{countBy}
-use Rattle.hash_chain.specs.Chain.{NextOf}
+use Rattle.hash_chain.specs.Inner.{NextOf}
 use Rattle.token_caveat.specs.Reading.{caveatOf}
 use Rattle.token_caveat_values.specs.declared.CaveatAt.{CaveatAt}
 use Rattle.token_caveat_values.specs.declared.CaveatParts.the-variants.{Of, Bad}

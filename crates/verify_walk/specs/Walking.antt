@@ -1,5 +1,5 @@
--- A token with its key, check by check. Document 01, "Numbers and names": "Verify: .. 8, 9, scope method, path, bytes (10 to 12), caveats in
--- token order."
+-- Reading. Need not be believed: the demands' theorems fix it. A token with its key, check by check. Document 01, "Numbers and names":
+-- "Verify: .. 8, 9, scope method, path, bytes (10 to 12), caveats in token order."
 use mathlib.Core.List.{List}
 use Prim.Native.Nat.{ℕ, zero, suc, _+_}
 use lib.Dec.{eqb}

@@ -6,7 +6,7 @@ use native.Mathlib.Omega.{arith}
 use native.Mathlib.Numerals.{add-one}
 use lib.ListN.{length, drop}
 use lib.Seq.{drop-cons}
-use Rattle.cbor_heads.specs.Heads.{numberFrom}
+use Rattle.cbor_heads.specs.Reading.{numberFrom}
 use Rattle.cbor_heads.proofs.Numbers.{more, most}
 use Rattle.cbor_heads.proofs.number.Statement.{statement}
 use Rattle.cbor_heads.proofs.number.Tie as tie

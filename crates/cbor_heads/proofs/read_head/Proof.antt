@@ -1,4 +1,4 @@
-use Rattle.cbor_heads.specs.Heads.{numberOf}
+use Rattle.cbor_heads.specs.Reading.{bigOf}
 use lib.ListN.{take, drop, length-take}
 use native.Mathlib.Omega.{arith}
 use mathlib.Core.Path.{_≡_, ap}
@@ -68,7 +68,7 @@ returns-3 c =
     let from = b .before .before .args .at + 1 in
     let n = c .before .before .before .before .before .n .given .0 .0 in
     let e : from + n - from ≡ n = omega arith in
-    let v = c .before .number .ensures ∙ ap (λ (k : ℕ). numberOf (take k (drop from s))) e in
+    let v = c .before .number .ensures ∙ ap (λ (k : ℕ). bigOf (take k (drop from s))) e in
     at-small _ _ (b .if1 .left) (sym (c .before .before .before .before .before .before .before .width-of .ensures) ∙ c .before .before .before .before .before .n .given .1)
     (c .before .before .before .if2 .left) (rw v at (c .if3 .taken))
 
@@ -88,7 +88,7 @@ returns-6 c =
     let from = b .before .before .args .at + 1 in
     let n = c .before .before .before .before .before .n .given .0 .0 in
     let e : from + n - from ≡ n = omega arith in
-    let v = c .before .number .ensures ∙ ap (λ (k : ℕ). numberOf (take k (drop from s))) e in
+    let v = c .before .number .ensures ∙ ap (λ (k : ℕ). bigOf (take k (drop from s))) e in
     rw v
     (at-value _ _ (b .if1 .left) (sym (c .before .before .before .before .before .before .before .width-of .ensures) ∙ c .before .before .before .before .before .n .given .1)
     (c .before .before .before .if2 .left) (rw v at (c .if3 .left)))

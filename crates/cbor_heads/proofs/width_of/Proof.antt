@@ -1,5 +1,5 @@
 use borrow.Author.Tests.{lt-ltb, le-ltb}
-use Rattle.cbor_heads.specs.Heads.{widthOf}
+use Rattle.cbor_heads.specs.Reading.{widthOf}
 use borrow.Author.Tests.{ne-eqb}
 use Rattle.cbor_heads.proofs.width_of.Statement.{statement}
 use Rattle.cbor_heads.proofs.width_of.Tie as tie

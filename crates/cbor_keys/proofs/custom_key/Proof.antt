@@ -1,6 +1,7 @@
 use mathlib.Core.Path.{sym, _∙_}
 use borrow.Author.Needs.{needs}
-use Rattle.cbor_keys.specs.Keys.{keysOf, indexFrom}
+use Rattle.cbor_keys.specs.Keys.{keysOf}
+use Rattle.cbor_keys.specs.Reading.{indexFrom}
 use Rattle.cbor_keys.proofs.custom_key.Statement.{statement}
 use Rattle.cbor_keys.proofs.custom_key.Tie as tie
 use Rattle.cbor_keys.proofs.custom_key.Reads as reads

@@ -2,7 +2,7 @@ use mathlib.Core.Path.{sym, _∙_}
 use borrow.Author.Needs.{needs}
 use borrow.Author.Tests.{eq-eqb, ne-eqb}
 use Rattle.cbor_strings.proofs.RunReads.{Found, found}
-use Rattle.cbor_keys.specs.Keys.{knownBy, keyBy}
+use Rattle.cbor_keys.specs.Reading.{knownBy, keyBy}
 use Rattle.cbor_keys.proofs.key_at.Statement.{statement}
 use Rattle.cbor_keys.proofs.key_at.Tie as tie
 use Rattle.cbor_keys.proofs.key_at.Reads as reads

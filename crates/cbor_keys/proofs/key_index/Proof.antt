@@ -1,6 +1,6 @@
 use mathlib.Core.Path.{sym, ap, _∙_}
 use borrow.Author.Needs.{needs}
-use Rattle.cbor_keys.specs.Keys.{indexOfKey}
+use Rattle.cbor_keys.specs.Reading.{indexOfKey}
 use Rattle.cbor_keys.specs.declared.Names.{Names}
 use Rattle.cbor_keys.proofs.key_index.Statement.{statement}
 use Rattle.cbor_keys.proofs.key_index.Tie as tie

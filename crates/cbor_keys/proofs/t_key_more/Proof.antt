@@ -1,6 +1,6 @@
 use mathlib.Core.Path.{sym, _∙_}
 use borrow.Author.Needs.{needs}
-use Rattle.cbor_keys.specs.Keys.{indexFrom}
+use Rattle.cbor_keys.specs.Reading.{indexFrom}
 use Rattle.cbor_keys.proofs.t_key_more.Statement.{statement}
 use Rattle.cbor_keys.proofs.t_key_more.Tie as tie
 use Rattle.cbor_keys.proofs.t_key_more.Reads as reads

@@ -1,7 +1,7 @@
 use mathlib.Core.Path.{sym, _∙_}
 use borrow.Author.Needs.{needs}
 use borrow.Author.Tests.{eq-eqb, ne-eqb}
-use Rattle.cbor_keys.specs.Keys.{wantedBy}
+use Rattle.cbor_keys.specs.Reading.{wantedBy}
 use Rattle.cbor_keys.proofs.wanted_key.Statement.{statement}
 use Rattle.cbor_keys.proofs.wanted_key.Tie as tie
 use Rattle.cbor_keys.proofs.wanted_key.Reads as reads

@@ -1,7 +1,7 @@
 use Prim.Native.Nat.{_-_}
 use lib.ListN.{length}
 use borrow.Author.Needs.{needs}
-use Rattle.cbor_strings.specs.Strings.{kindsFrom}
+use Rattle.cbor_strings.specs.Inner.{kindsFrom}
 use Rattle.cbor_strings.proofs.Classes.{Searched, searched-none, too-low, too-high, searched-one, searched-all}
 use Rattle.cbor_strings.proofs.all_from.Statement.{statement}
 use Rattle.cbor_strings.proofs.all_from.Tie as tie

@@ -1,6 +1,7 @@
 use mathlib.Core.Path.{refl}
 use Rattle.basis.proofs.All.{all}
-use Rattle.cbor_strings.specs.Strings.{kindOf, isName, isPrintable, isUpper, isHex}
+use Rattle.cbor_strings.specs.Strings.{isName, isPrintable, isUpper, isHex}
+use Rattle.cbor_strings.specs.Inner.{kindOf}
 use Rattle.cbor_strings.proofs.Classes.{stretch}
 use borrow.Author.Needs.{needs}
 use Rattle.cbor_strings.proofs.kind.Statement.{statement}

@@ -1,7 +1,8 @@
 use mathlib.Core.Path.{refl}
 use native.Mathlib.Omega.{arith}
 use Rattle.basis.proofs.All.{all}
-use Rattle.cbor_strings.specs.Strings.{kindOf, isName, isPrintable, isUpper, isHex}
+use Rattle.cbor_strings.specs.Strings.{isName, isPrintable, isUpper, isHex}
+use Rattle.cbor_strings.specs.Inner.{kindOf}
 use Rattle.cbor_strings.proofs.Classes.{stretch}
 use Rattle.cbor_strings.proofs.sign_kind.Statement.{statement}
 use Rattle.cbor_strings.proofs.sign_kind.Tie as tie

@@ -4,7 +4,7 @@ use Prim.Native.Nat.{ℕ}
 use native.Mathlib.Omega.{arith}
 use lib.ListN.{length-append}
 use Rattle.hash_chunks.specs.Chunks.{rootFlag}
-use Rattle.keyed_hash.specs.Tree.{bytesOf, treeOf}
+use Rattle.keyed_hash.specs.Tree.{bytesOfWords, treeOf}
 use Rattle.keyed_hash.proofs.Hashing.{bad-key, long-head, long-body, taken}
 use borrow.Author.Needs.{needs}
 use Rattle.keyed_hash.proofs.keyed_hash_joined.Statement.{statement}
@@ -60,7 +60,7 @@ returns-4 c =
     let m = s .args .head .now ++ s .args .body .now in
     let key = c .before .before .before .key-words .ensures in
     let root = c .before .before .tree .ensures ∙ ap (λ (k : List ℕ). treeOf k 3 m 0 rootFlag) key in
-    taken (s .args .key .now) m (c .before .before .before .before .before .before .if1 .left) (simp length-append (omega arith)) (c .before .number .ensures) (c .spread .ensures ∙ ap bytesOf root)
+    taken (s .args .key .now) m (c .before .before .before .before .before .before .if1 .left) (simp length-append (omega arith)) (c .before .number .ensures) (c .spread .ensures ∙ ap bytesOfWords root)
 
 pub keyed-hash-joined-spec : {M : Type 1} → statement M
 keyed-hash-joined-spec =

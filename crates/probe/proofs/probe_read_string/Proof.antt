@@ -1,5 +1,5 @@
 use mathlib.Core.Path.{ap, _∙_}
-use Rattle.cbor_strings.specs.Strings.{readString}
+use Rattle.cbor_strings.specs.Reading.{readString}
 use Rattle.probe.specs.Probes.{contentProbe}
 use borrow.Author.Needs.{needs}
 use Rattle.probe.proofs.probe_read_string.Statement.{statement}

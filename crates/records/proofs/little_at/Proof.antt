@@ -1,7 +1,7 @@
 use mathlib.Core.Path.{sym, _∙_}
 use borrow.Author.Needs.{needs}
 use borrow.Author.Tests.{lt-ltb, le-ltb}
-use Rattle.records.specs.Records.{littleAt}
+use Rattle.records.specs.Reading.{littleAt}
 use Rattle.records.proofs.Runs.{ran, few-bytes}
 use Rattle.records.proofs.little_at.Statement.{statement}
 use Rattle.records.proofs.little_at.Tie as tie

@@ -1,5 +1,5 @@
 use mathlib.Core.Path.{sym, _∙_}
-use Rattle.records.specs.Records.{recordKind, recordThen, readRecord}
+use Rattle.records.specs.Reading.{recordKind, recordThen, readRecord}
 use borrow.Author.Needs.{needs}
 use Rattle.records.proofs.record_at.Statement.{statement}
 use Rattle.records.proofs.record_at.Tie as tie

@@ -1,5 +1,5 @@
 use borrow.Author.Tests.{le-ltb, lt-ltb}
-use Rattle.records.specs.Records.{runAt}
+use Rattle.records.specs.Reading.{runAt}
 use borrow.Author.Needs.{needs}
 use Rattle.records.proofs.run_at.Statement.{statement}
 use Rattle.records.proofs.run_at.Tie as tie

@@ -2,7 +2,7 @@ use mathlib.Core.Path.{sym, _∙_}
 use borrow.Author.Needs.{needs}
 use Rattle.records.proofs.Runs.{ran}
 use borrow.Author.Tests.{lt-ltb, le-ltb}
-use Rattle.records.specs.Records.{contentThen, lengthThen, textAt}
+use Rattle.records.specs.Reading.{contentThen, lengthThen, textAt}
 use Rattle.records.proofs.text_at.Statement.{statement}
 use Rattle.records.proofs.text_at.Tie as tie
 use Rattle.records.proofs.text_at.Reads as reads

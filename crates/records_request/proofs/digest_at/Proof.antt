@@ -2,7 +2,7 @@ use mathlib.Core.Path.{sym, _∙_}
 use borrow.Author.Needs.{needs}
 use borrow.Author.Tests.{eq-eqb, ne-eqb}
 use Rattle.records.proofs.Runs.{ran}
-use Rattle.records_request.specs.Reading.{digestThen, digestAt}
+use Rattle.records_request.specs.Reading.{digestFound, digestAt}
 use Rattle.records_request.proofs.digest_at.Statement.{statement}
 use Rattle.records_request.proofs.digest_at.Tie as tie
 use Rattle.records_request.proofs.digest_at.Reads as reads
@@ -11,7 +11,7 @@ use Rattle.cbor_strings.proofs.content_is.Reads as content-is-reads
 use Rattle.records.proofs.run_at.Reads as run-at-reads
 
 returns : tie.Need-returns
-unfolding digestThen digestAt
+unfolding digestFound digestAt
 returns c = rw (eq-eqb _ _ (c .if1 .taken))
 
 run-at-requires : tie.Need-run-at-requires
@@ -36,15 +36,15 @@ content-is-requires : tie.Need-content-is-requires
 content-is-requires c κs = search needs
 
 returns-2 : tie.Need-returns-2
-unfolding digestThen digestAt
+unfolding digestFound digestAt
 returns-2 c = rw (ne-eqb _ _ (c .before .before .before .before .before .before .before .if1 .left), sym (c .before .before .before .before .before .before .run-at .ensures) ∙ c .before .before .before .before .span .given .1, sym (c .before .content-is .ensures) ∙ c .if2 .taken)
 
 returns-3 : tie.Need-returns-3
-unfolding digestThen digestAt
+unfolding digestFound digestAt
 returns-3 c = rw (ne-eqb _ _ (c .before .before .before .if1 .left), sym (c .before .before .run-at .ensures) ∙ c .enum-told .given .1)
 
 returns-4 : tie.Need-returns-4
-unfolding digestThen digestAt
+unfolding digestFound digestAt
 returns-4 c = rw (ne-eqb _ _ (c .before .before .before .before .before .before .before .if1 .left), sym (c .before .before .before .before .before .before .run-at .ensures) ∙ c .before .before .before .before .span .given .1, sym (c .before .content-is .ensures) ∙ c .if2 .left)
 
 pub digest-at-spec : {M : Type 1} → statement M

@@ -1,6 +1,6 @@
 use mathlib.Core.Path.{sym, _∙_}
 use borrow.Author.Tests.{le-ltb, lt-ltb}
-use Rattle.records_request.specs.Reading.{endThen, tenantThen, pathThen, methodThen, stringsAt}
+use Rattle.records_request.specs.Reading.{stringsEnd, tenantThen, pathThen, methodNext, stringsAt}
 use borrow.Author.Needs.{needs}
 use Rattle.records_request.proofs.strings_at.Statement.{statement}
 use Rattle.records_request.proofs.strings_at.Tie as tie
@@ -46,27 +46,27 @@ enum-known-audience : tie.Need-enum-known-audience
 enum-known-audience c = search needs
 
 returns : tie.Need-returns
-unfolding endThen tenantThen pathThen methodThen stringsAt
+unfolding stringsEnd tenantThen pathThen methodNext stringsAt
 returns c = rw (sym (c .before .before .before .before .before .before .before .before .before .before .before .before .before .before .before .before .text-at .ensures) ∙ c .before .before .before .before .before .before .before .before .before .before .before .before .before .before .method .given .1, sym (c .before .before .before .before .before .before .before .before .before .before .before .before .text-at2 .ensures) ∙ c .before .before .before .before .before .before .before .before .before .before .path .given .1, sym (c .before .before .before .before .before .before .before .before .text-at3 .ensures) ∙ c .before .before .before .before .before .before .tenant .given .1, sym (c .before .before .before .before .audience-at .ensures) ∙ c .before .before .audience .given .1, lt-ltb _ _ (c .if1 .taken))
 
 returns-2 : tie.Need-returns-2
-unfolding endThen tenantThen pathThen methodThen stringsAt
+unfolding stringsEnd tenantThen pathThen methodNext stringsAt
 returns-2 c = rw (sym (c .before .before .text-at .ensures) ∙ c .enum-told .given .1)
 
 returns-3 : tie.Need-returns-3
-unfolding endThen tenantThen pathThen methodThen stringsAt
+unfolding stringsEnd tenantThen pathThen methodNext stringsAt
 returns-3 c = rw (sym (c .before .before .before .before .before .before .text-at .ensures) ∙ c .before .before .before .before .method .given .1, sym (c .before .before .text-at2 .ensures) ∙ c .enum-told2 .given .1)
 
 returns-4 : tie.Need-returns-4
-unfolding endThen tenantThen pathThen methodThen stringsAt
+unfolding stringsEnd tenantThen pathThen methodNext stringsAt
 returns-4 c = rw (sym (c .before .before .before .before .before .before .before .before .before .before .text-at .ensures) ∙ c .before .before .before .before .before .before .before .before .method .given .1, sym (c .before .before .before .before .before .before .text-at2 .ensures) ∙ c .before .before .before .before .path .given .1, sym (c .before .before .text-at3 .ensures) ∙ c .enum-told3 .given .1)
 
 returns-5 : tie.Need-returns-5
-unfolding endThen tenantThen pathThen methodThen stringsAt
+unfolding stringsEnd tenantThen pathThen methodNext stringsAt
 returns-5 c = rw (sym (c .before .before .before .before .before .before .before .before .before .before .before .before .before .before .text-at .ensures) ∙ c .before .before .before .before .before .before .before .before .before .before .before .before .method .given .1, sym (c .before .before .before .before .before .before .before .before .before .before .text-at2 .ensures) ∙ c .before .before .before .before .before .before .before .before .path .given .1, sym (c .before .before .before .before .before .before .text-at3 .ensures) ∙ c .before .before .before .before .tenant .given .1, sym (c .before .before .audience-at .ensures) ∙ c .enum-told4 .given .1)
 
 returns-6 : tie.Need-returns-6
-unfolding endThen tenantThen pathThen methodThen stringsAt
+unfolding stringsEnd tenantThen pathThen methodNext stringsAt
 returns-6 c = rw (sym (c .before .before .before .before .before .before .before .before .before .before .before .before .before .before .before .before .text-at .ensures) ∙ c .before .before .before .before .before .before .before .before .before .before .before .before .before .before .method .given .1, sym (c .before .before .before .before .before .before .before .before .before .before .before .before .text-at2 .ensures) ∙ c .before .before .before .before .before .before .before .before .before .before .path .given .1, sym (c .before .before .before .before .before .before .before .before .text-at3 .ensures) ∙ c .before .before .before .before .before .before .tenant .given .1, sym (c .before .before .before .before .audience-at .ensures) ∙ c .before .before .audience .given .1, le-ltb _ _ (c .if1 .left))
 
 pub strings-at-spec : {M : Type 1} → statement M

@@ -1,5 +1,6 @@
 use mathlib.Core.Path.{sym, _∙_}
-use Rattle.token_back.specs.Back.{tagAt, tagField}
+use Rattle.token_back.specs.Back.{tagField}
+use Rattle.token_back.specs.Values.{tagAt}
 use borrow.Author.Needs.{needs}
 use Rattle.token_back.proofs.tag_field.Statement.{statement}
 use Rattle.token_back.proofs.tag_field.Tie as tie

@@ -1,6 +1,7 @@
 use mathlib.Core.Path.{sym, _∙_}
 use borrow.Author.Tests.{eq-eqb, ne-eqb}
-use Rattle.token_back.specs.Back.{versionThen, versionAt, versionField}
+use Rattle.token_back.specs.Back.{versionField}
+use Rattle.token_back.specs.Values.{versionThen, versionAt}
 use borrow.Author.Needs.{needs}
 use Rattle.token_back.proofs.version_field.Statement.{statement}
 use Rattle.token_back.proofs.version_field.Tie as tie

@@ -1,5 +1,5 @@
 use borrow.Author.Tests.{ne-eqb}
-use Rattle.token_caveat.specs.Reading.{valueAt}
+use Rattle.token_caveat.specs.Values.{valueAt}
 use borrow.Author.Needs.{needs}
 use Rattle.token_caveat.proofs.value_at.Statement.{statement}
 use Rattle.token_caveat.proofs.value_at.Tie as tie

@@ -1,5 +1,5 @@
 use mathlib.Core.Path.{sym, _∙_}
-use Rattle.token_caveat_values.specs.Values.{customEnd, customThen, nsThen}
+use Rattle.token_caveat_values.specs.Maps.{customEnd, customThen, nsThen}
 use borrow.Author.Needs.{needs}
 use Rattle.token_caveat_values.proofs.custom_then.Statement.{statement}
 use Rattle.token_caveat_values.proofs.custom_then.Tie as tie

@@ -1,5 +1,5 @@
 use mathlib.Core.Path.{sym, _∙_}
-use Rattle.token_caveat_values.specs.Values.{customMap, customValue}
+use Rattle.token_caveat_values.specs.Maps.{customMap, customValue}
 use borrow.Author.Needs.{needs}
 use Rattle.token_caveat_values.proofs.custom_value.Statement.{statement}
 use Rattle.token_caveat_values.proofs.custom_value.Tie as tie

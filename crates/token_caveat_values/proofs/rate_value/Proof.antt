@@ -1,5 +1,5 @@
 use mathlib.Core.Path.{sym, _∙_}
-use Rattle.token_caveat_values.specs.Values.{burstThen, rateMap, rateValue}
+use Rattle.token_caveat_values.specs.Maps.{burstThen, rateMap, rateValue}
 use borrow.Author.Needs.{needs}
 use Rattle.token_caveat_values.proofs.rate_value.Statement.{statement}
 use Rattle.token_caveat_values.proofs.rate_value.Tie as tie

@@ -1,6 +1,6 @@
 use mathlib.Core.Path.{sym, _∙_}
 use borrow.Author.Needs.{needs}
-use Rattle.token_front.specs.Front.{endBy}
+use Rattle.token_front.specs.Ends.{endBy}
 use Rattle.token_front.proofs.Lent.{defect-fits, end-fits}
 use Rattle.token_front.proofs.caveat_end.Statement.{statement}
 use Rattle.token_front.proofs.caveat_end.Tie as tie

@@ -3,7 +3,7 @@ use native.Mathlib.Omega.{arith}
 use borrow.Author.Needs.{needs}
 use Rattle.cbor_values.specs.Reading.{itemsOf}
 use Rattle.cbor_values.proofs.ItemReads.{one-bad, one-more}
-use Rattle.token_front.specs.Front.{caveatEnd}
+use Rattle.token_front.specs.Ends.{caveatEnd}
 use Rattle.token_front.proofs.caveats_end.Statement.{statement}
 use Rattle.token_front.proofs.caveats_end.Tie as tie
 use Rattle.token_front.proofs.caveats_end.Reads as reads
