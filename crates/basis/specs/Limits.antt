@@ -1,5 +1,4 @@
--- Meaning. Every limit and kind of document 01, each beside the words that fix it ("Token bytes", then "House records"). What counts bytes of
--- CBOR or of a hash stands where it is read.
+-- Meaning. Every limit and kind of document 01, each beside the words that fix it ("Token bytes", then "Chain", then "House records").
 use Prim.Native.Nat.{ℕ}
 
 -- "tid, kid, tenant, ns, name: 1 to 64"
@@ -26,6 +25,10 @@ methodMost = 16
 abbrev pub digestLength : ℕ
 digestLength = 64
 
+-- "ip_cidr: IPv4 a.b.c.d/n, .. n 0 to 32"
+abbrev pub cidrMost : ℕ
+cidrMost = 32
+
 -- "any unsigned 64-bit number"
 abbrev pub numberMost : ℕ
 numberMost = 0xffffffffffffffff
@@ -42,13 +45,13 @@ depthMost = 4
 abbrev pub caveatsMost : ℕ
 caveatsMost = 64
 
+-- "v is 1"
+abbrev pub tokenVersion : ℕ
+tokenVersion = 1
+
 -- "s is 32 bytes"
 abbrev pub tagLength : ℕ
 tagLength = 32
-
--- "32 key bytes"
-abbrev pub keyLength : ℕ
-keyLength = 32
 
 -- "At most 4,096 decoded bytes, .."
 abbrev pub tokenMost : ℕ
@@ -57,6 +60,17 @@ tokenMost = 4096
 -- ".. so 5,462 characters"
 abbrev pub textMost : ℕ
 textMost = 5462
+
+-- "Messages up to 8,192 bytes are taken. .. a key that is not 32 bytes .."
+abbrev pub messageMost : ℕ
+messageMost = 8192
+
+abbrev pub keyLength : ℕ
+keyLength = 32
+
+-- "MAC is BLAKE3 keyed mode, 32 bytes out."
+abbrev pub hashLength : ℕ
+hashLength = 32
 
 -- "Key table: 0 to 64 records .."
 abbrev pub rowsMost : ℕ

@@ -12,6 +12,8 @@ pub const METHOD_MOST: u64 = 16;
 
 pub const DIGEST_LENGTH: u64 = 64;
 
+pub const CIDR_MOST: u32 = 32;
+
 pub const NUMBER_MOST: u64 = 0xffff_ffff_ffff_ffff;
 
 pub const RATE_MOST: u64 = 0xffff_ffff;
@@ -20,13 +22,17 @@ pub const DEPTH_MOST: u8 = 4;
 
 pub const CAVEATS_MOST: u64 = 64;
 
-pub const TAG_LENGTH: u64 = 32;
+pub const TOKEN_VERSION: u64 = 1;
 
-pub const KEY_LENGTH: usize = 32;
+pub const TAG_LENGTH: u64 = 32;
 
 pub const TOKEN_MOST: usize = 4096;
 
 pub const TEXT_MOST: usize = 5462;
+
+pub const MESSAGE_MOST: usize = 8192;
+
+pub const KEY_LENGTH: usize = 32;
 
 pub const ROWS_MOST: u32 = 64;
 

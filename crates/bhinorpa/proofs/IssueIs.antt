@@ -9,6 +9,7 @@ use Rattle.basis.specs.Basis.{pick, IsBytes}
 use Rattle.hash_chain.specs.Chain.{firstLink, chainOf, tagOf}
 use Rattle.token_scope.specs.Scopes.{Scope, encodeScope}
 use Rattle.token_scope.proofs.ScopeWritten.{scope-written}
+use Rattle.token_scope.proofs.ScopeMap.{defect-scope}
 use Rattle.token.proofs.WritingLaws.{fresh-written}
 use Rattle.records_table.specs.Tables.{Row, encodeTable, hasRow, keyIn}
 use Rattle.records_table.specs.Reading.{findFrom}
@@ -28,7 +29,7 @@ module _ (table tid kid bytes : List ℕ) where
 
   module _ (rows : List Row) (t : EncodesTable table rows) where
     pub issue-defect : (n : ℕ) → ScopeDefect bytes n → issueOf table tid kid bytes ≡ refused n
-    issue-defect n (scope-unreadable at e) = sym (issue-bad-scope table tid kid bytes (good-table table rows t) e)
+    issue-defect n (scope-unreadable at e) = sym (issue-bad-scope table tid kid bytes (good-table table rows t) (defect-scope bytes 0 e))
     issue-defect n (scope-left-over scope g rest e h z) =
         let w = scope-written scope g bytes rest 0 e in
         sym (issue-left-over table tid kid bytes (good-table table rows t) (w .answer) (λ l. all-left bytes (encodeScope scope) rest e h (omega (arith, l)))) ∙ ap refused (sym z)

@@ -12,6 +12,7 @@ use Rattle.basis.specs.Same.{sameOf}
 use Rattle.basis.proofs.Sameness.{same-equal, equal-same}
 use Rattle.text_reading.specs.Reading.{decodedOf}
 use Rattle.hash_chain.specs.Chain.{nextLink}
+use Rattle.token_caveat.proofs.CaveatMap.{defect-caveat}
 use Rattle.token_caveat.specs.Caveats.{Caveat, encodeCaveat}
 use Rattle.token_caveat.specs.Reading.{caveatOf}
 use Rattle.token_caveat.proofs.CaveatLaws.{caveat-written}
@@ -66,7 +67,7 @@ module _ (table text bytes : List ℕ) where
     tagged = of-tree rows (p .table-is) token (p .canonical) ∙ rw (p .known, equal-same (chainTag (keyFor rows token) token) (token .tag) (p .tagged))
 
     pub narrow-caveat-defect : (n : ℕ) → CaveatDefect bytes n → narrowOf table text bytes ≡ refused (n + 27)
-    narrow-caveat-defect n (caveat-unreadable at e) = tagged ∙ rw e
+    narrow-caveat-defect n (caveat-unreadable at e) = tagged ∙ rw (defect-caveat bytes e)
     narrow-caveat-defect n (caveat-left-over caveat g rest e h z) =
         let w = caveat-written caveat g bytes rest e in
         tagged ∙ rw (w .answer, ne-eqb (length (encodeCaveat caveat)) (length bytes) (all-left bytes (encodeCaveat caveat) rest e h)) (ap (λ (k : ℕ). refused (k + 27)) (sym z))

@@ -23,6 +23,7 @@ use Rattle.token.specs.declared.TokenParts.the-variants.{Of, Bad}
 use Rattle.token.proofs.TokenWritten.{token-written}
 use Rattle.token.proofs.TokenRead.{token-read}
 use Rattle.token.proofs.DefectKinds.{token-kind}
+use Rattle.token.proofs.TokenMap.{token-defect, defect-token}
 use Rattle.outcome.proofs.Sizes.{short-text}
 use Rattle.bhinorpa.specs.Allowed.{Canonical}
 use Rattle.bhinorpa.specs.Verdicts.{TextDefect, too-long, no-base64, unreadable}
@@ -70,18 +71,18 @@ defect-unread text n (no-base64 l h e) = by (judgedOf text) refl
     by (Fault at) j = unread-fault l at j e
     by (Whole k) j = let z = h (bytesOf text) (whole-bytes text j) (sym (whole-text text j)) in elim z [ ]
 defect-unread text n (unreadable l bytes b e at f) =
-    unread-bytes l (length bytes) (ap judgedOf e ∙ judged-text bytes b) at (ap tokenOf (ap bytesOf e ∙ bytes-text bytes b) ∙ f)
+    unread-bytes l (length bytes) (ap judgedOf e ∙ judged-text bytes b) at (ap tokenOf (ap bytesOf e ∙ bytes-text bytes b) ∙ defect-token bytes f)
 
 unread-defect : (text : List ℕ) (n : ℕ) → Unread text n → TextDefect text n
 unread-defect text n (unread-long h e) = too-long h e
 unread-defect text n (unread-fault l at j e) = no-base64 l (λ bytes b f. no-fault text bytes b f at j) e
-unread-defect text n (unread-bytes l k j at f) = unreadable l (bytesOf text) (whole-bytes text j) (sym (whole-text text j)) at f
+unread-defect text n (unread-bytes l k j at f) = unreadable l (bytesOf text) (whole-bytes text j) (sym (whole-text text j)) at (token-defect (bytesOf text) f)
 
 -- a defect's number is one of 3 to 6
 pub defect-few : (text : List ℕ) (n : ℕ) → TextDefect text n → (3 ≤ n) × (n ≤ 6)
 defect-few text n (too-long h e) = (omega (arith, e), omega (arith, e))
 defect-few text n (no-base64 l h e) = (omega (arith, e), omega (arith, e))
-defect-few text n (unreadable l bytes b e at f) = let k = token-kind bytes f in (omega (arith, k .0), omega (arith, k .1))
+defect-few text n (unreadable l bytes b e at f) = let k = token-kind bytes (defect-token bytes f) in (omega (arith, k .0), omega (arith, k .1))
 
 pub defect-no-token : DefectNoToken
 defect-no-token text n d token c = by (defect-unread text n d)

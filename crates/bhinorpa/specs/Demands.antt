@@ -9,6 +9,7 @@ use mathlib.Core.Option.{some, none}
 use Prim.Native.Nat.{ℕ, _≤_}
 use lib.Dec.{eqb, leb, ltb}
 use lib.ListN.{length, take}
+use Rattle.basis.specs.Limits.{nameMost, caveatsMost, tokenMost, textMost}
 use Rattle.basis.specs.Basis.{pick, IsBytes}
 use Rattle.answers.specs.Answers.{numberOf}
 use Rattle.answers.specs.declared.Answer.the-variants.{Allow, CavFull, SizeFull, OutShort}
@@ -87,7 +88,7 @@ IssueVerdictOne =
 
 -- "7 (also for a tid or kid of wrong form)": only ids of the right form have a row in a good table
 abbrev pub IdsOfRows : Type 0
-IdsOfRows = (rows : List Row) → GoodTable rows → (tid kid : List ℕ) → hasRow rows tid kid ≡ true → GoodText Name 1 64 tid × GoodText Name 1 64 kid
+IdsOfRows = (rows : List Row) → GoodTable rows → (tid kid : List ℕ) → hasRow rows tid kid ≡ true → GoodText Name 1 nameMost tid × GoodText Name 1 nameMost kid
 
 -- a good table, scope and row are refused only for the room
 abbrev pub IssueRefusals : Type 0
@@ -124,13 +125,13 @@ NarrowWrites =
 abbrev pub Rebuilt : Type 0
 Rebuilt =
     (table text : List ℕ) (rows : List Row) (token : Token) → Parent table text rows token
-    → (first : Call) → 5462 ≤ length (first .entry) → Carried (issueOf table (token .tid) (token .kid) (encodeScope (token .scope))) (first .entry) (first .outcome) (first .exit)
+    → (first : Call) → textMost ≤ length (first .entry) → Carried (issueOf table (token .tid) (token .kid) (encodeScope (token .scope))) (first .entry) (first .outcome) (first .exit)
     → (calls : List Call) → Narrowings table (leftBy first) (caveatBytes (token .caveats)) calls
     → AllDone (first ∷ calls) × (leftBy (lastCall first calls) ≡ text)
 
 -- a room of 5,462 bytes takes every token's text
 abbrev pub RoomEnough : Type 0
-RoomEnough = (text : List ℕ) (token : Token) → Canonical text token → length text ≤ 5462
+RoomEnough = (text : List ℕ) (token : Token) → Canonical text token → length text ≤ textMost
 
 -- DEMAND 3: "Whenever narrow hands out a child, the child is allowed exactly when the parent is and the added caveat holds"
 abbrev pub NarrowingExact : Type 0
@@ -145,8 +146,8 @@ NarrowingRefusals =
     (table text bytes : List ℕ) (rows : List Row) (token : Token) → Parent table text rows token → (added : Caveat) → EncodesCaveat bytes added
     → (entry : List ℕ) (outcome : Outcome) (exit : List ℕ) → Carried (narrowOf table text bytes) entry outcome exit
     → outcome .answer
-    ≡ pick (eqb (length (token .caveats)) 64) (numberOf CavFull)
-    (pick (ltb 4096 (length (encodeToken (childToken rows token added)))) (numberOf SizeFull)
+    ≡ pick (eqb (length (token .caveats)) caveatsMost) (numberOf CavFull)
+    (pick (ltb tokenMost (length (encodeToken (childToken rows token added)))) (numberOf SizeFull)
     (pick (leb (length (tokenText (childToken rows token added))) (length entry)) (numberOf Allow) (numberOf OutShort)))
 
 -- Document 01, "What holds when": "ip_cidr, a present peer's first n bits agree"

@@ -5,6 +5,9 @@ use mathlib.Core.Bool.{true}
 use mathlib.Core.List.{List, [], _∷_, _++_}
 use Prim.Native.Nat.{ℕ, _≤_}
 use lib.ListN.{length, take}
+use Rattle.basis.specs.Limits.{textMost}
+use Rattle.answers.specs.Answers.{numberOf}
+use Rattle.answers.specs.declared.Answer.the-variants.{Allow}
 use Rattle.basis.specs.Basis.{over}
 use Rattle.text_writing.specs.Base64url.{textLength}
 use Rattle.hash_chain.specs.Chain.{tagOf, nextLink}
@@ -96,8 +99,8 @@ pub record NarrowsExactly (table text bytes child : List ℕ) : Type 0 where
       → (Allowed rows asked child → Allowed rows asked text × (caveatHolds asked (token .tid) added ≡ true))
       × (Allowed rows asked text × (caveatHolds asked (token .tid) added ≡ true) → Allowed rows asked child)
   pub by-verify : (request : List ℕ) (asked : Request) → EncodesRequest request asked
-      → (verifyOf table request child ≡ 0 → (verifyOf table request text ≡ 0) × (caveatHolds asked (token .tid) added ≡ true))
-      × ((verifyOf table request text ≡ 0) × (caveatHolds asked (token .tid) added ≡ true) → verifyOf table request child ≡ 0)
+      → (verifyOf table request child ≡ numberOf Allow → (verifyOf table request text ≡ numberOf Allow) × (caveatHolds asked (token .tid) added ≡ true))
+      × ((verifyOf table request text ≡ numberOf Allow) × (caveatHolds asked (token .tid) added ≡ true) → verifyOf table request child ≡ numberOf Allow)
 
 -- a call into a room: as it was, what was answered, and as it is then
 pub record Call : Type 0 where
@@ -115,7 +118,7 @@ Narrowings table text [] [] = Unit {0}
 Narrowings table text [] (call ∷ calls) = ⊥
 Narrowings table text (bytes ∷ rest) [] = ⊥
 Narrowings table text (bytes ∷ rest) (call ∷ calls) =
-    (5462 ≤ length (call .entry)) × Carried (narrowOf table text bytes) (call .entry) (call .outcome) (call .exit) × Narrowings table (leftBy call) rest calls
+    (textMost ≤ length (call .entry)) × Carried (narrowOf table text bytes) (call .entry) (call .outcome) (call .exit) × Narrowings table (leftBy call) rest calls
 
 -- the last call of all
 unfoldable pub lastCall : Call → List Call → Call
@@ -124,4 +127,4 @@ lastCall first (call ∷ calls) = lastCall call calls
 
 unfoldable pub AllDone : List Call → Type 0
 AllDone [] = Unit {0}
-AllDone (call ∷ calls) = (call .outcome .answer ≡ 0) × AllDone calls
+AllDone (call ∷ calls) = (call .outcome .answer ≡ numberOf Allow) × AllDone calls

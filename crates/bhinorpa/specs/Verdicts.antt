@@ -14,15 +14,13 @@ use Rattle.answers.specs.declared.Answer.the-variants.{Allow, TableBad, CtxBad,
 use Rattle.answers.specs.declared.Answer.the-variants.{CaveatMethod, CaveatPath, CaveatBytes, CaveatExp, CaveatNbf, CaveatAud, CaveatIp, CaveatRate, CaveatTenant, CaveatAmnesia, CaveatPolicyDigest, CaveatCustomUnknown}
 use Rattle.answers.specs.declared.Answer.the-variants.{CavCbor, CavBounds, CavUnknown, CavFull, SizeFull, OutShort}
 use Rattle.text_writing.specs.Base64url.{base64url}
+use Rattle.cbor_values.specs.declared.Item.the-variants.{Bad}
 use Rattle.token_scope.specs.Scopes.{Scope, encodeScope, GoodScope}
-use Rattle.token_scope.specs.Reading.{scopeOf}
-use Rattle.token_scope.specs.declared.ScopeParts.the-variants.{Bad as NoScope}
+use Rattle.token_scope.specs.Fields.{readScope}
 use Rattle.token_caveat.specs.Caveats.{Caveat, encodeCaveat, GoodCaveat}
-use Rattle.token_caveat.specs.Reading.{caveatOf}
-use Rattle.token_caveat_values.specs.declared.CaveatParts.the-variants.{Bad as NoCaveat}
+use Rattle.token_caveat.specs.Fields.{readCaveat}
 use Rattle.token.specs.Tokens.{Token, encodeToken}
-use Rattle.token.specs.Reading.{tokenOf}
-use Rattle.token.specs.declared.TokenParts.the-variants.{Bad as NoToken}
+use Rattle.token.specs.Fields.{readToken}
 use Rattle.records_table.specs.Tables.{Row, hasRow}
 use Rattle.records_request.specs.Requests.{Request}
 use Rattle.outcome.specs.declared.Outcome.{Outcome}
@@ -42,15 +40,15 @@ pub data TextDefect (text : List ℕ) (n : ℕ) : Type 0 where
   -- 3: no bytes have this text
   no-base64 : length text ≤ textMost → ((bytes : List ℕ) → IsBytes bytes → text ≡ base64url bytes → ⊥) → n ≡ numberOf ParseB64 → TextDefect text n
   -- "reading (4 to 6)": the first defect of the bytes that have this text
-  unreadable : length text ≤ textMost → (bytes : List ℕ) → IsBytes bytes → text ≡ base64url bytes → (at : ℕ) → tokenOf bytes ≡ NoToken n at → TextDefect text n
+  unreadable : length text ≤ textMost → (bytes : List ℕ) → IsBytes bytes → text ≡ base64url bytes → (at : ℕ) → readToken bytes ≡ Bad n at → TextDefect text n
 
 -- the first defect of bytes that are not one scope, or not one caveat: of its reading, or that bytes are left over (4)
 pub data ScopeDefect (bytes : List ℕ) (n : ℕ) : Type 0 where
-  scope-unreadable : (at : ℕ) → scopeOf bytes 0 ≡ NoScope n at → ScopeDefect bytes n
+  scope-unreadable : (at : ℕ) → readScope bytes 0 ≡ Bad n at → ScopeDefect bytes n
   scope-left-over : (scope : Scope) → GoodScope scope → (rest : List ℕ) → bytes ≡ encodeScope scope ++ rest → (rest ≡ [] → ⊥) → n ≡ numberOf ParseCbor → ScopeDefect bytes n
 
 pub data CaveatDefect (bytes : List ℕ) (n : ℕ) : Type 0 where
-  caveat-unreadable : (at : ℕ) → caveatOf bytes ≡ NoCaveat n at → CaveatDefect bytes n
+  caveat-unreadable : (at : ℕ) → readCaveat bytes ≡ Bad n at → CaveatDefect bytes n
   caveat-left-over : (caveat : Caveat) → GoodCaveat caveat → (rest : List ℕ) → bytes ≡ encodeCaveat caveat ++ rest → (rest ≡ [] → ⊥) → n ≡ numberOf ParseCbor → CaveatDefect bytes n
 
 -- "Verify: 1, 2, text over 5,462 characters (5), 3, reading (4 to 6), 7, 8, 9, scope method, path, bytes (10 to 12), caveats in token order."

@@ -41,10 +41,13 @@ unfoldable pub linesFrom : ℕ → List ℕ → List ℕ → List ℕ → ℕ �
 linesFrom zero s table request at = []
 linesFrom (suc k) s table request at = pick (eqb at (length s)) [] (afterRecord badLine (kindThen (linesFrom k s) s table request) (readRecord s at))
 
--- "Before any, the table is empty and the request counts as malformed": so does an empty one. A record has at least four bytes, so that
--- 65,536 bytes hold 16,384 at most. "a longer input gives that line only"
+-- a record has at least four bytes, so that 65,536 bytes hold so many at most
+abbrev pub recordsMost : ℕ
+recordsMost = 16384
+
+-- "Before any, the table is empty and the request counts as malformed": so does an empty one. "a longer input gives that line only"
 unfoldable pub linesOf : List ℕ → List ℕ
-linesOf input = pick (ltb bundleMost (length input)) badLine (linesFrom 16384 input [] [] 0)
+linesOf input = pick (ltb bundleMost (length input)) badLine (linesFrom recordsMost input [] [] 0)
 
 -- 16,384 lines of at most 27 bytes, "deny caveat.custom.unknown" and the byte 0x0a
 abbrev pub enough : ℕ

@@ -10,7 +10,11 @@ ghost use Prim.Native.Nat.{_+_, _≤_};
 ghost use lib.ListN.{length};
 ghost use Rattle.answers.specs.Answers.{answerOf};
 ghost use Rattle.cbor_writing.specs.Placing.{Placed};
-ghost use Rattle.bundle.specs.Lines.{nameIn, lineWords, line, linesFrom, Judged};
+ghost use Rattle.basis.specs.Limits.{bundleMost};
+ghost use Rattle.bundle.specs.Lines.{nameIn, lineWords, line, linesFrom, recordsMost, enough, Judged};
+
+// Room for the lines of any bundle: 16,384 of at most 27 bytes.
+pub const ENOUGH: usize = 442368;
 
 // The answer's name; for a number that no answer has "?", which verify never gives.
 fn put_name(room: &mut [u8], at: usize, n: u32) -> usize
@@ -48,8 +52,8 @@ fn put_line(room: &mut [u8], at: usize, n: u32) -> usize
 
 // The lines of an input of at most 65,536 bytes.
 fn walk(input: &[u8], room: &mut [u8]) -> usize
-    requires { ⌜ (length (now input) ≤ 65536) × (442368 ≤ length (now room)) ⌝ }
-    ensures { λ r. ⌜ Placed (linesFrom 16384 (now (input .entry)) [] [] 0) (now (room .entry)) 0 r (now (room .exit)) ⌝ }
+    requires { ⌜ (length (now input) ≤ bundleMost) × (enough ≤ length (now room)) ⌝ }
+    ensures { λ r. ⌜ Placed (linesFrom recordsMost (now (input .entry)) [] [] 0) (now (room .entry)) 0 r (now (room .exit)) ⌝ }
 {
     let mut p: usize = 0;
     let mut n: usize = 0;
@@ -82,12 +86,12 @@ fn walk(input: &[u8], room: &mut [u8]) -> usize
     n
 }
 
-// Writes the lines at the front of the room and says how long they are; in a room of less than 442,368
-// bytes it writes nothing and says 0.
+// Writes the lines at the front of the room and says how long they are; in a room that is not enough it
+// writes nothing and says 0.
 pub fn judge_bundle(input: &[u8], room: &mut [u8]) -> usize
     ensures { λ r. ⌜ Judged (now (input .entry)) (now (room .entry)) r (now (room .exit)) ⌝ }
 {
-    if room.len() < 442368 {
+    if room.len() < ENOUGH {
         return 0;
     }
     if limits::BUNDLE_MOST < input.len() {

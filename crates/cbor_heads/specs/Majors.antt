@@ -1,4 +1,5 @@
--- Meaning. The major types (RFC 8949, 3.1), and the three numbers that a defect of what is read has (document 01, "Numbers and names").
+-- Meaning. The major types (RFC 8949, 3.1) and the simple values (3.3) that are read or written, and the three numbers that a defect of what
+-- is read has (document 01, "Numbers and names").
 use Prim.Native.Nat.{ℕ}
 
 abbrev pub unsigned : ℕ
@@ -22,6 +23,17 @@ map = 5
 abbrev pub simple : ℕ
 simple = 7
 
+-- the simple values
+abbrev pub simpleFalse : ℕ
+simpleFalse = 20
+
+abbrev pub simpleTrue : ℕ
+simpleTrue = 21
+
+abbrev pub simpleNull : ℕ
+simpleNull = 22
+
+-- the defects
 abbrev pub parseCbor : ℕ
 parseCbor = 4
 

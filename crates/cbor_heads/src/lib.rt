@@ -4,7 +4,7 @@ ghost use mathlib.Core.Path.{_≡_};
 ghost use Prim.Native.Nat.{_<_, _≤_};
 ghost use lib.ListN.{length};
 ghost use Rattle.cbor_heads.specs.Reading.{bigOf, widthOf, readHead};
-ghost use Rattle.cbor_heads.specs.Counts.{readCount};
+ghost use Rattle.cbor_heads.specs.Counts.{readCount, mapWith, arrayUpTo, numberUpTo};
 
 pub mod defect;
 pub mod major;
@@ -123,4 +123,23 @@ pub fn read_count(s: &[u8], at: usize, major: u8, least: u64, most: u64, above: 
             Count::Of { n, next }
         }
     }
+}
+
+// The count of a map that requires so many keys and knows so many.
+pub fn map_with(s: &[u8], at: usize, required: u64, known: u64) -> Count
+    ensures { λ r. ⌜ r ≡ mapWith required known (now (s .entry)) at ⌝ }
+{
+    read_count(s, at, major::MAP, required, known, defect::UNKNOWN)
+}
+
+pub fn array_up_to(s: &[u8], at: usize, most: u64) -> Count
+    ensures { λ r. ⌜ r ≡ arrayUpTo most (now (s .entry)) at ⌝ }
+{
+    read_count(s, at, major::ARRAY, 0, most, defect::BOUNDS)
+}
+
+pub fn number_up_to(s: &[u8], at: usize, most: u64) -> Count
+    ensures { λ r. ⌜ r ≡ numberUpTo most (now (s .entry)) at ⌝ }
+{
+    read_count(s, at, major::UNSIGNED, 0, most, defect::BOUNDS)
 }

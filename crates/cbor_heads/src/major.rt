@@ -1,4 +1,4 @@
-// The major types that are read or written (RFC 8949, 3.1).
+// The major types (RFC 8949, 3.1) and the simple values (3.3) that are read or written.
 
 pub const UNSIGNED: u8 = 0;
 
@@ -13,3 +13,9 @@ pub const ARRAY: u8 = 4;
 pub const MAP: u8 = 5;
 
 pub const SIMPLE: u8 = 7;
+
+pub const FALSE: u64 = 20;
+
+pub const TRUE: u64 = 21;
+
+pub const NULL: u64 = 22;

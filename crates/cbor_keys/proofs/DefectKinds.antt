@@ -7,6 +7,7 @@ use lib.Dec.{eqb}
 use Rattle.basis.specs.Basis.{between}
 use Rattle.basis.specs.declared.Span.{Span}
 use Rattle.basis.proofs.Picks.{either}
+use Rattle.cbor_heads.specs.Counts.{numberUpTo}
 use Rattle.cbor_strings.specs.Reading.{readRun}
 use Rattle.cbor_strings.specs.declared.Class.the-variants.{Name}
 use Rattle.cbor_heads.specs.declared.Count.{Count}
@@ -18,7 +19,7 @@ use Rattle.cbor_values.specs.declared.Item.{Item}
 use Rattle.cbor_values.specs.declared.Item.the-variants.{End, Bad as NoItem}
 use Rattle.cbor_values.proofs.DefectKinds.{ItemKind}
 use Rattle.cbor_keys.specs.Reading.{indexOfKey, knownBy, keyBy, keyAt, wantedBy, wantedKey}
-use Rattle.cbor_keys.specs.Fields.{nameAt, nameField, numberAt, numberField}
+use Rattle.cbor_keys.specs.Fields.{nameAt, nameField, numberField}
 use Rattle.cbor_keys.specs.Steps.{afterItem, afterContent, afterCount, afterKey}
 use Rattle.cbor_keys.specs.declared.Names.{Names}
 use Rattle.cbor_keys.specs.declared.Key.{Key}
@@ -60,7 +61,7 @@ unfolding wantedBy
 wanted-by at want (Bad kind a) h = h
 wanted-by at want (Of index next) h = either ItemKind {x = End next} {y = NoItem 4 at} (eqb index want) tt kind-4
 
-pub number-kinds : (s : List ℕ) (most at : ℕ) → CountKind (numberAt s most at)
+pub number-kinds : (s : List ℕ) (most at : ℕ) → CountKind (numberUpTo most s at)
 number-kinds s most at = count-kinds s at 0 0 most 5 kind-5
 
 module _ (names : Names) (s : List ℕ) (at : ℕ) where
@@ -76,4 +77,4 @@ module _ (names : Names) (s : List ℕ) (at : ℕ) where
 
   pub number-field-kinds : (want most : ℕ) → CountKind (numberField names s at want most)
   number-field-kinds want most =
-      item-step CountKind NoCount (λ kind a h. h) (numberAt s most) (number-kinds s most) (wantedKey names s at want) (wanted-kinds want)
+      item-step CountKind NoCount (λ kind a h. h) (numberUpTo most s) (number-kinds s most) (wantedKey names s at want) (wanted-kinds want)

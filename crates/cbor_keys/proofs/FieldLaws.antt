@@ -7,6 +7,7 @@ use lib.ListN.{length, take, drop, getD}
 use Rattle.basis.specs.Basis.{ascii, fromTo, between, IsBytes}
 use Rattle.basis.specs.declared.Span.{Span}
 use Rattle.basis.proofs.Parts.{past, ends}
+use Rattle.cbor_heads.specs.Counts.{numberUpTo}
 use Rattle.cbor_heads.specs.Heads.{head}
 use Rattle.cbor_strings.specs.declared.Class.the-variants.{Name}
 use Rattle.cbor_heads.specs.declared.Count.the-variants.{Of as Counted}
@@ -14,14 +15,14 @@ use Rattle.cbor_strings.specs.declared.Content.the-variants.{Of as Found}
 use Rattle.cbor_heads.proofs.CountLaws.{head-there, there-head, count, counted}
 use Rattle.cbor_keys.specs.Keys.{keysOf}
 use Rattle.cbor_keys.specs.Reading.{indexOfKey, wantedKey}
-use Rattle.cbor_keys.specs.Fields.{nameAt, nameField, numberAt, numberField}
+use Rattle.cbor_keys.specs.Fields.{nameAt, nameField, numberField}
 use Rattle.cbor_keys.specs.Maps.{text, GoodText}
 use Rattle.cbor_keys.specs.declared.Names.{Names}
 use Rattle.cbor_keys.proofs.KeyLaws.{wanted-written, wanted-read}
 use Rattle.cbor_keys.proofs.StepLaws.{item-went}
 use Rattle.cbor_keys.proofs.TextLaws.{text-written, text-held, text-read}
 
-pub number-written : (s rest : List ℕ) (at n most : ℕ) → n ≤ most → n < 2 ^ 64 → drop at s ≡ head 0 n ++ rest → numberAt s most at ≡ Counted n (at + length (head 0 n))
+pub number-written : (s rest : List ℕ) (at n most : ℕ) → n ≤ most → n < 2 ^ 64 → drop at s ≡ head 0 n ++ rest → numberUpTo most s at ≡ Counted n (at + length (head 0 n))
 number-written s rest at n most l h e = sym (count s at 0 0 most 5 (head-there s rest at 0 n e h) refl (omega arith) l)
 
 -- a text behind its key
@@ -73,7 +74,7 @@ module _ (names : Names) (want : ℕ) (h : want < 16) where
 
     pub number-field-read : (most : ℕ) {n to : ℕ} → numberField names s at want most ≡ Counted n to → IsNumberField most n to
     number-field-read most e =
-        let w = item-went (λ kind a e. let z : _≡_ {A = ℕ} 0 1 = cc in omega arith) (numberAt s most) (wantedKey names s at want) e in
+        let w = item-went (λ kind a e. let z : _≡_ {A = ℕ} 0 1 = cc in omega arith) (numberUpTo most s) (wantedKey names s at want) e in
         let k = wanted-read names want h s b at (w .was) in
         let t = counted s (w .next) 0 0 most 5 (w .goes) in
         record { few = t .few; there = rw (append-assoc, ← there-head s b (w .next) (t .headed)) k }

@@ -7,6 +7,7 @@ use lib.ListN.{length}
 use Rattle.basis.specs.Basis.{between}
 use Rattle.basis.specs.declared.Span.{Span}
 use Rattle.basis.proofs.Picks.{either}
+use Rattle.cbor_heads.specs.Counts.{numberUpTo}
 use Rattle.cbor_strings.specs.Reading.{readRun}
 use Rattle.cbor_strings.specs.declared.Class.the-variants.{Name}
 use Rattle.cbor_heads.specs.declared.Count.{Count}
@@ -18,7 +19,7 @@ use Rattle.cbor_values.specs.declared.Item.{Item}
 use Rattle.cbor_values.specs.declared.Item.the-variants.{End, Bad as NoItem}
 use Rattle.cbor_values.proofs.Inside.{ItemIn}
 use Rattle.cbor_keys.specs.Reading.{indexOfKey, knownBy, keyBy, keyAt, wantedBy, wantedKey}
-use Rattle.cbor_keys.specs.Fields.{nameAt, nameField, numberAt, numberField}
+use Rattle.cbor_keys.specs.Fields.{nameAt, nameField, numberField}
 use Rattle.cbor_keys.specs.Steps.{afterItem, afterContent, afterCount, afterKey}
 use Rattle.cbor_keys.specs.declared.Names.{Names}
 use Rattle.cbor_keys.specs.declared.Key.{Key}
@@ -75,5 +76,5 @@ module _ (names : Names) (s : List ℕ) (at : ℕ) where
 
   pub number-field-in : (want most : ℕ) → at ≤ length s → CountIn (length s) (numberField names s at want most)
   number-field-in want most h =
-      item-step (CountIn (length s)) (length s) NoCount (λ kind a g. g) (numberAt s most) (λ next g. count-in s next 0 0 most 5 g) (wantedKey names s at want)
+      item-step (CountIn (length s)) (length s) NoCount (λ kind a g. g) (numberUpTo most s) (λ next g. count-in s next 0 0 most 5 g) (wantedKey names s at want)
       (wanted-in want h)

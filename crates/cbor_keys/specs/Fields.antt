@@ -20,9 +20,5 @@ nameAt s at = readString s at Name 1 nameMost
 abbrev pub nameField : Names → List ℕ → ℕ → ℕ → Content
 nameField names s at want = afterItem NoContent (nameAt s) (wantedKey names s at want)
 
--- a number of the type unsigned; over `most` it is parse.bounds
-abbrev pub numberAt : List ℕ → ℕ → ℕ → Count
-numberAt s most at = numberUpTo most s at
-
 abbrev pub numberField : Names → List ℕ → ℕ → ℕ → ℕ → Count
-numberField names s at want most = afterItem NoCount (numberAt s most) (wantedKey names s at want)
+numberField names s at want most = afterItem NoCount (numberUpTo most s) (wantedKey names s at want)

@@ -1,6 +1,10 @@
 -- Reading. The index of each name among those of its place: `keysOf` lists them in this order (`indexes` of proofs/Indexes.antt).
 use Prim.Native.Nat.{ℕ}
 
+-- the index of what is no name: no place has so many
+abbrev pub noName : ℕ
+noName = 16
+
 -- the keys of a token
 abbrev pub tokenC : ℕ
 tokenC = 0

@@ -9,6 +9,7 @@ use lib.Dec.{eqb}
 use Rattle.basis.specs.Basis.{pick, ascii, between}
 use Rattle.basis.specs.Same.{sameOf}
 use Rattle.basis.specs.Limits.{numberMost}
+use Rattle.cbor_keys.specs.Indexes.{noName}
 use Rattle.cbor_heads.specs.Majors.{unknownField, textString, parseCbor}
 use Rattle.cbor_strings.specs.Reading.{readRun}
 use Rattle.cbor_strings.specs.declared.Content.{Content}
@@ -20,16 +21,16 @@ use Rattle.cbor_keys.specs.declared.Key.{Key}
 use Rattle.cbor_keys.specs.declared.Key.the-variants.{Of, Bad}
 use Rattle.cbor_keys.specs.Keys.{keysOf}
 
--- the index of the first name that the content is; 16 where it is none, since no place has so many names
+-- the index of the first name that the content is
 unfoldable pub indexFrom : ℕ → List ℕ → List String → ℕ
-indexFrom i c [] = 16
+indexFrom i c [] = noName
 indexFrom i c (n ∷ ns) = pick (sameOf c (ascii n)) i (indexFrom (suc i) c ns)
 
 abbrev pub indexOfKey : Names → List ℕ → ℕ
 indexOfKey names c = indexFrom 0 c (keysOf names)
 
 unfoldable pub knownBy : ℕ → ℕ → ℕ → Key
-knownBy at to index = pick (eqb index 16) (Bad unknownField at) (Of index to)
+knownBy at to index = pick (eqb index noName) (Bad unknownField at) (Of index to)
 
 unfoldable pub keyBy : Names → List ℕ → ℕ → Content → Key
 keyBy names s at (NoContent kind a) = Bad kind a

@@ -2,7 +2,6 @@
 // place, and told by their index there. A defect carries document 01's number and the place.
 use basis::limits;
 use cbor_heads::Count;
-use cbor_heads::defect::BOUNDS;
 use cbor_heads::defect::CBOR;
 use cbor_heads::defect::UNKNOWN;
 use cbor_heads::major;
@@ -54,7 +53,7 @@ fn token_key(c: &[u8]) -> u32
     if basis::same(c, b"tid") {
         return index::TOKEN_TID;
     }
-    16
+    index::NONE
 }
 
 fn scope_key(c: &[u8]) -> u32
@@ -69,7 +68,7 @@ fn scope_key(c: &[u8]) -> u32
     if basis::same(c, b"max_bytes") {
         return index::SCOPE_MAX_BYTES;
     }
-    16
+    index::NONE
 }
 
 fn caveat_key(c: &[u8]) -> u32
@@ -81,7 +80,7 @@ fn caveat_key(c: &[u8]) -> u32
     if basis::same(c, b"v") {
         return index::CAVEAT_V;
     }
-    16
+    index::NONE
 }
 
 fn t_key(c: &[u8]) -> u32
@@ -129,7 +128,7 @@ fn t_key_more(c: &[u8]) -> u32
     if basis::same(c, b"custom") {
         return index::T_CUSTOM;
     }
-    16
+    index::NONE
 }
 
 fn rate_key(c: &[u8]) -> u32
@@ -141,7 +140,7 @@ fn rate_key(c: &[u8]) -> u32
     if basis::same(c, b"per_s") {
         return index::RATE_PER_S;
     }
-    16
+    index::NONE
 }
 
 fn custom_key(c: &[u8]) -> u32
@@ -156,7 +155,7 @@ fn custom_key(c: &[u8]) -> u32
     if basis::same(c, b"name") {
         return index::CUSTOM_NAME;
     }
-    16
+    index::NONE
 }
 
 fn key_index(names: Names, c: &[u8]) -> u32
@@ -181,7 +180,7 @@ pub fn key_at(s: &[u8], at: usize, names: Names) -> Key
             let from = span.from;
             let to = span.to;
             let index = key_index(names, &s[from..to]);
-            if index == 16 {
+            if index == index::NONE {
                 return Key::Bad { kind: UNKNOWN, at };
             }
             Key::Of { index, next: to }
@@ -219,6 +218,6 @@ pub fn number_field(s: &[u8], at: usize, names: Names, want: u32, most: u64) -> 
 {
     match wanted_key(s, at, names, want) {
         Item::Bad { kind, at: a } => Count::Bad { kind, at: a },
-        Item::End { next } => cbor_heads::read_count(s, next, major::UNSIGNED, 0, most, BOUNDS),
+        Item::End { next } => cbor_heads::number_up_to(s, next, most),
     }
 }

@@ -3,7 +3,7 @@ use mathlib.Core.List.{List}
 use Prim.Native.Nat.{ℕ, zero, suc, _+_, _-_, _≤_}
 use native.Mathlib.Omega.{arith}
 use borrow.Author.Tests.{ltb-false}
-use lib.Dec.{ltb, eqb}
+use lib.Dec.{ltb, leb, eqb}
 use lib.ListN.{length, take, drop}
 use Rattle.basis.proofs.Picks.{either, tested}
 use Rattle.cbor_heads.specs.Reading.{readHead}
@@ -33,7 +33,7 @@ module _ (P : Item → Type 0) (s : List ℕ) (at next n : ℕ) (bad : P (Bad 4 
       → P (byMajor array s at (Got major n next))
   unfolding byMajor
   major-ways array major end run text deeper =
-      let simple = either P (ltb n 20) bad (either P (ltb n 23) end bad) in
+      let simple = either P (ltb n 20) bad (either P (leb n 22) end bad) in
       either P (ltb major 2) end
       (either P (eqb major 2) run
       (either P (eqb major 3) text

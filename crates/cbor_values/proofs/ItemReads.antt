@@ -4,7 +4,7 @@ use mathlib.Core.Bool.{true, false}
 use mathlib.Core.List.{List}
 use Prim.Native.Nat.{ℕ, zero, suc, _+_, _-_, _≤_, _<_}
 use native.Mathlib.Omega.{arith}
-use borrow.Author.Tests.{lt-ltb, le-ltb, ne-eqb}
+use borrow.Author.Tests.{lt-ltb, le-ltb, le-leb, lt-leb, ne-eqb}
 use lib.ListN.{length, take, drop}
 use Rattle.cbor_heads.specs.Reading.{readHead}
 use Rattle.cbor_heads.specs.declared.Head.the-variants.{Got, Bad as NoHead}
@@ -58,13 +58,13 @@ module _ (d : ℕ) (s : List ℕ) (at : ℕ) where
     unfolding byMajor
     too-small h g = by (rw (e, h, lt-ltb _ _ g))
 
-    pub simple : major ≡ 7 → 20 ≤ n → n < 23 → End next ≡ valueOf d s at
+    pub simple : major ≡ 7 → 20 ≤ n → n ≤ 22 → End next ≡ valueOf d s at
     unfolding byMajor
-    simple h l g = by (rw (e, h, le-ltb _ _ l, lt-ltb _ _ g))
+    simple h l g = by (rw (e, h, le-ltb _ _ l, le-leb _ _ g))
 
-    pub too-large : major ≡ 7 → 20 ≤ n → 23 ≤ n → Bad 4 at ≡ valueOf d s at
+    pub too-large : major ≡ 7 → 20 ≤ n → 22 < n → Bad 4 at ≡ valueOf d s at
     unfolding byMajor
-    too-large h l g = by (rw (e, h, le-ltb _ _ l, le-ltb _ _ g))
+    too-large h l g = by (rw (e, h, le-ltb _ _ l, lt-leb _ _ g))
 
     pub other : 2 ≤ major → (major ≡ 2 → ⊥) → (major ≡ 3 → ⊥) → (major ≡ 4 → ⊥) → (major ≡ 7 → ⊥) → Bad 4 at ≡ valueOf d s at
     unfolding byMajor

@@ -4,8 +4,8 @@ use mathlib.Core.Bool.{Bool, true, false}
 use mathlib.Core.List.{List, _++_, append-assoc}
 use Prim.Native.Nat.{ℕ, zero, suc, _+_, _-_, _^_, _≤_, _<_}
 use native.Mathlib.Omega.{arith}
-use borrow.Author.Tests.{ltb-true, ltb-false, eqb-true, eqb-false}
-use lib.Dec.{ltb, eqb}
+use borrow.Author.Tests.{ltb-true, ltb-false, leb-true, eqb-true, eqb-false}
+use lib.Dec.{ltb, leb, eqb}
 use lib.ListN.{length, take, drop, length-drop, take-append-drop}
 use lib.Seq.{drop-drop, length-take-le}
 use Rattle.basis.specs.Basis.{pick, IsBytes}
@@ -89,16 +89,16 @@ module _ (d : ℕ) (s : List ℕ) (b : IsBytes s) (at : ℕ) {major n nx : ℕ} 
           let x : nx + n ≡ next = cc in
           record { tree = text content; good = (rw (content-long h) bounded, r); there = rw (← x, ← m) (string-there h) }
 
-  is-simple : {next : ℕ} → major ≡ 7 → pick (ltb n 20) (Bad 4 at) (pick (ltb n 23) (End nx) (Bad 4 at)) ≡ End next → IsValue d s at next
+  is-simple : {next : ℕ} → major ≡ 7 → pick (ltb n 20) (Bad 4 at) (pick (leb n 22) (End nx) (Bad 4 at)) ≡ End next → IsValue d s at next
   unfolding Good encode
-  is-simple {next} m = by (ltb n 20) refl (ltb n 23) refl
+  is-simple {next} m = by (ltb n 20) refl (leb n 22) refl
     where
-      by : (z : Bool) → ltb n 20 ≡ z → (u : Bool) → ltb n 23 ≡ u → pick z (Bad 4 at) (pick u (End nx) (Bad 4 at)) ≡ End next → IsValue d s at next
+      by : (z : Bool) → ltb n 20 ≡ z → (u : Bool) → leb n 22 ≡ u → pick z (Bad 4 at) (pick u (End nx) (Bad 4 at)) ≡ End next → IsValue d s at next
       by true p u r e = let z : _≡_ {A = ℕ} 0 1 = cc in let z : ⊥ = omega arith in elim z [ ]
       by false p false r e = let z : _≡_ {A = ℕ} 0 1 = cc in let z : ⊥ = omega arith in elim z [ ]
       by false p true r e =
           let x : nx ≡ next = cc in
-          record { tree = simple n; good = (ltb-false n 20 p, ltb-true n 23 r); there = rw (← x, ← m) headed }
+          record { tree = simple n; good = (ltb-false n 20 p, leb-true n 22 r); there = rw (← x, ← m) headed }
 
 -- an array of what was read
 is-array : (d : ℕ) (s : List ℕ) → IsBytes s → (at : ℕ) {major n nx next : ℕ} → readHead s at ≡ Got major n nx → major ≡ 4 → AreValues d s n nx next → IsValue (suc d) s at next
@@ -141,7 +141,7 @@ module _ (d : ℕ) (s : List ℕ) (b : IsBytes s) (at next : ℕ) (f : ℕ → �
       → (x2 : Bool) → ltb major 2 ≡ x2 → (y2 : Bool) → eqb major 2 ≡ y2 → (y3 : Bool) → eqb major 3 ≡ y3
       → (y4 : Bool) → eqb major 4 ≡ y4 → (y7 : Bool) → eqb major 7 ≡ y7
       → pick x2 (End nx) (pick y2 (runOf s at nx n) (pick y3 (textOf s at nx n) (pick y4 (f n nx)
-      (pick y7 (pick (ltb n 20) (Bad 4 at) (pick (ltb n 23) (End nx) (Bad 4 at))) (Bad 4 at))))) ≡ End next → IsValue d s at next
+      (pick y7 (pick (ltb n 20) (Bad 4 at) (pick (leb n 22) (End nx) (Bad 4 at))) (Bad 4 at))))) ≡ End next → IsValue d s at next
   by-major {major} q true p y2 p2 y3 p3 y4 p4 y7 p7 e = is-number d s b at q (ltb-true major 2 p) e
   by-major {major} q false p true p2 y3 p3 y4 p4 y7 p7 e = is-bytes d s b at q (eqb-true major 2 p2) e
   by-major {major} q false p false p2 true p3 y4 p4 y7 p7 e = is-text d s b at q (eqb-true major 3 p3) e

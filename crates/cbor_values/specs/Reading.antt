@@ -5,9 +5,9 @@
 use mathlib.Core.List.{List}
 use Prim.Native.Nat.{ℕ, zero, suc, _+_, _-_}
 use lib.ListN.{length, take, drop}
-use lib.Dec.{ltb, eqb}
+use lib.Dec.{ltb, leb, eqb}
 use Rattle.basis.specs.Basis.{pick}
-use Rattle.cbor_heads.specs.Majors.{parseCbor, parseBounds, byteString, textString, simple, array as arrayMajor}
+use Rattle.cbor_heads.specs.Majors.{parseCbor, parseBounds, byteString, textString, simple, array as arrayMajor, simpleFalse, simpleNull}
 use Rattle.cbor_heads.specs.Reading.{readHead}
 use Rattle.cbor_heads.specs.declared.Head.{Head}
 use Rattle.cbor_heads.specs.declared.Head.the-variants.{Got, Bad as NoHead}
@@ -35,15 +35,16 @@ unfoldable pub itemsOf : (ℕ → Item) → ℕ → ℕ → Item
 itemsOf f zero at = End at
 itemsOf f (suc k) at = andThen (f at) (itemsOf f k)
 
--- by the head's major type; `array n next` is what an array of n elements gives. Of major type 7 only false, true and null are taken: 20, 21, 22
+-- by the head's major type, where those below byteString are the integers; `array n next` is what an array of n elements gives. Of the simple
+-- values only false, true and null are taken
 unfoldable pub byMajor : (ℕ → ℕ → Item) → List ℕ → ℕ → Head → Item
 byMajor array s at (NoHead a) = Bad parseCbor a
 byMajor array s at (Got major n next) =
-    pick (ltb major 2) (End next)
+    pick (ltb major byteString) (End next)
     (pick (eqb major byteString) (runOf s at next n)
     (pick (eqb major textString) (textOf s at next n)
     (pick (eqb major arrayMajor) (array n next)
-    (pick (eqb major simple) (pick (ltb n 20) (Bad parseCbor at) (pick (ltb n 23) (End next) (Bad parseCbor at)))
+    (pick (eqb major simple) (pick (ltb n simpleFalse) (Bad parseCbor at) (pick (leb n simpleNull) (End next) (Bad parseCbor at)))
     (Bad parseCbor at)))))
 
 -- a value with at most so many arrays inside each other. 01: "nesting over four (a fifth array's head, once that head itself is good) ..:

@@ -5,13 +5,13 @@ use mathlib.Core.Bool.{true}
 use mathlib.Core.List.{List, [], _++_}
 use Prim.Native.Nat.{ℕ, zero, suc, _<_, _≤_, _^_}
 use lib.ListN.{length}
-use Rattle.cbor_heads.specs.Majors.{unsigned, byteString, textString, negative as negativeMajor, simple as simpleMajor, array as arrayMajor}
+use Rattle.cbor_heads.specs.Majors.{unsigned, byteString, textString, negative as negativeMajor, simple as simpleMajor, array as arrayMajor, simpleFalse, simpleNull}
 use Rattle.cbor_heads.specs.Heads.{head}
 use Rattle.cbor_strings.specs.Strings.{string}
 use Rattle.cbor_values.specs.Utf8.{utf8}
 
 mutual
-  -- `negative n` stands for -1 - n; `simple` is 20 for false, 21 for true, 22 for null
+  -- `negative n` stands for -1 - n; `simple` is one of false, true, null, by its number
   pub data Value : Type 0 where
     number : ℕ → Value
     negative : ℕ → Value
@@ -48,7 +48,7 @@ unfoldable mutual
   Good (negative n) d = n < 2 ^ 64
   Good (bytes c) d = length c < 2 ^ 64
   Good (text c) d = (length c < 2 ^ 64) × (utf8 c ≡ true)
-  Good (simple n) d = (20 ≤ n) × (n < 23)
+  Good (simple n) d = (simpleFalse ≤ n) × (n ≤ simpleNull)
   Good (array vs) zero = ⊥
   Good (array vs) (suc d) = (count vs < 2 ^ 64) × AllGood vs d
 

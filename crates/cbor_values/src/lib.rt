@@ -167,10 +167,10 @@ pub fn read_value(s: &[u8], at: usize, depth: u8) -> Item
                 }
             }
             major::SIMPLE => {
-                if n < 20 {
+                if n < major::FALSE {
                     return Item::Bad { kind: CBOR, at };
                 }
-                if n < 23 {
+                if n <= major::NULL {
                     return Item::End { next };
                 }
                 Item::Bad { kind: CBOR, at }

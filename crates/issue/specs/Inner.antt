@@ -3,9 +3,13 @@ use mathlib.Core.Path.{_≡_}
 use mathlib.Core.List.{List}
 use Prim.Native.Nat.{ℕ, _≤_}
 use lib.ListN.{length}
+use Rattle.basis.specs.Limits.{nameMost, keyLength}
 
--- what the writing of a fresh token needs
+-- the longest scope: a prefix of 256 bytes, 16 methods of 16 letters, and a number of eight bytes
+abbrev pub scopeMost : ℕ
+scopeMost = 567
+
 pub record Issuable (key tid kid scope : List ℕ) : Type 0 where
-  pub tid-short : length key ≡ 32 → length tid ≤ 64
-  pub kid-short : length key ≡ 32 → length kid ≤ 64
-  pub scope-short : length scope ≤ 567
+  pub tid-short : length key ≡ keyLength → length tid ≤ nameMost
+  pub kid-short : length key ≡ keyLength → length kid ≤ nameMost
+  pub scope-short : length scope ≤ scopeMost

@@ -7,6 +7,7 @@ use Prim.Native.Nat.{ℕ, _<_}
 use native.Mathlib.Omega.{arith}
 use lib.Dec.{eqb, ltb}
 use lib.ListN.{length, take, drop, getD, replicate, take-append-drop}
+use Rattle.basis.specs.Limits.{messageMost, keyLength, hashLength}
 use Rattle.basis.specs.Basis.{pick}
 use Rattle.basis.specs.Tabs.{tab-length, tab-below}
 use Rattle.answers.specs.Answers.{numberOf}
@@ -29,17 +30,17 @@ hash-is inside key message = refl
 
 -- 01: "A longer one, or a key that is not 32 bytes, is answered 37 and, by value, 32 zero bytes."
 unfoldable pub refusedHash : Hashed
-refusedHash = record { answer = numberOf HashBad; bytes = replicate 32 0 }
+refusedHash = record { answer = numberOf HashBad; bytes = replicate hashLength 0 }
 
 -- 01: "Messages up to 8,192 bytes are taken."
 unfoldable pub hashedOf : List ℕ → List ℕ → Hashed
 hashedOf key message =
-    pick (eqb (length key) 32)
-    (pick (ltb 8192 (length message)) refusedHash (record { answer = numberOf Allow; bytes = keyedHash key message }))
+    pick (eqb (length key) keyLength)
+    (pick (ltb messageMost (length message)) refusedHash (record { answer = numberOf Allow; bytes = keyedHash key message }))
     refusedHash
 
 -- a hash is 32 bytes
-pub hash-length : (key message : List ℕ) → length (keyedHash key message) ≡ 32
+pub hash-length : (key message : List ℕ) → length (keyedHash key message) ≡ hashLength
 hash-length key message = ap length (hash-is Here key message) ∙ tab-length 32 _
 
 pub hash-bytes : (key message : List ℕ) (i : ℕ) → getD (keyedHash key message) i 0 < 256

@@ -1,6 +1,7 @@
 // BLAKE3 in keyed mode over a message that lies in two parts, so that a caveat is hashed where it lies,
 // behind the words that go before it. The parts are cut, lent and compressed, and never joined.
 use answers::Answer;
+use basis::limits;
 ghost use mathlib.Core.Path.{_≡_};
 ghost use mathlib.Core.List.{_++_};
 ghost use Prim.Native.Nat.{_<_, _+_, _^_};
@@ -88,13 +89,13 @@ fn refused() -> Hashed
 pub fn keyed_hash_joined(key: &[u8], head: &[u8], body: &[u8]) -> Hashed
     ensures { λ r. ⌜ r ≡ hashedOf (now (key .entry)) (now (head .entry) ++ now (body .entry)) ⌝ }
 {
-    if key.len() != 32 {
+    if key.len() != limits::KEY_LENGTH {
         return refused();
     }
-    if 8192 < head.len() {
+    if limits::MESSAGE_MOST < head.len() {
         return refused();
     }
-    if 8192 - head.len() < body.len() {
+    if limits::MESSAGE_MOST - head.len() < body.len() {
         return refused();
     }
     let top = tree(hash_chunks::key_words(key), head, body, 0, 3, ROOT);

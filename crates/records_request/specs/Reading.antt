@@ -13,6 +13,7 @@ use Rattle.basis.specs.Limits.{skewMost, digestLength, audMost, nameMost, metho
 use Rattle.cbor_strings.specs.Strings.{contentOf}
 use Rattle.cbor_strings.specs.declared.Class.the-variants.{Hex, Upper, Path, Name, Printable}
 use Rattle.records.specs.Reading.{runAt, littleAt, textAt, afterRun, afterNumber}
+use Rattle.records_request.specs.Requests.{peerFlag, audienceFlag, digestFlag, rateFlag, flagsMost}
 use Rattle.records_request.specs.declared.Numbers.{Numbers}
 use Rattle.records_request.specs.declared.Fixed.{Fixed}
 use Rattle.records_request.specs.declared.Fixed.the-variants.{Of as FixedOf, Bad as NoFixed}
@@ -58,7 +59,7 @@ abbrev pub numbersOf : ℕ → ℕ → ℕ → ℕ → Numbers
 numbersOf now size skew flags = record { now = now; size = size; skew = skew; flags = flags }
 
 unfoldable pub flagsThen : ℕ → ℕ → ℕ → ℕ → ℕ → Fixed
-flagsThen now size skew flags next = pick (ltb skewMost skew) NoFixed (pick (ltb 31 flags) NoFixed (FixedOf (numbersOf now size skew flags) next))
+flagsThen now size skew flags next = pick (ltb skewMost skew) NoFixed (pick (ltb flagsMost flags) NoFixed (FixedOf (numbersOf now size skew flags) next))
 
 unfoldable pub skewThen : List ℕ → ℕ → ℕ → ℕ → ℕ → Fixed
 skewThen s now size skew next = afterNumber NoFixed (flagsThen now size skew) (littleAt s next 1)
@@ -77,13 +78,13 @@ abbrev pub foundPart : Span → PartStep
 foundPart part = PartOf (At part) (part .to)
 
 unfoldable pub peerAt : List ℕ → ℕ → ℕ → PartStep
-peerAt s flags at = pick (eqb (flags / 2 % 2) 0) (PartOf Absent at) (afterRun BadPart foundPart (runAt s at 4))
+peerAt s flags at = pick (eqb (flags / peerFlag % 2) 0) (PartOf Absent at) (afterRun BadPart foundPart (runAt s at 4))
 
 unfoldable pub digestFound : List ℕ → Span → PartStep
 digestFound s part = pick (contentOf Hex (between s part)) (foundPart part) BadPart
 
 unfoldable pub digestAt : List ℕ → ℕ → ℕ → PartStep
-digestAt s flags at = pick (eqb (flags / 8 % 2) 0) (PartOf Absent at) (afterRun BadPart (digestFound s) (runAt s at digestLength))
+digestAt s flags at = pick (eqb (flags / digestFlag % 2) 0) (PartOf Absent at) (afterRun BadPart (digestFound s) (runAt s at digestLength))
 
 abbrev pub burstNext : ℕ → ℕ → ℕ → RateStep
 burstNext per-s burst next = RateOf (RateIs per-s burst) next
@@ -92,7 +93,7 @@ unfoldable pub perNext : List ℕ → ℕ → ℕ → RateStep
 perNext s per-s next = afterNumber BadRate (burstNext per-s) (littleAt s next 4)
 
 unfoldable pub rateAt : List ℕ → ℕ → ℕ → RateStep
-rateAt s flags at = pick (eqb (flags / 16 % 2) 0) (RateOf NoRate at) (afterNumber BadRate (perNext s) (littleAt s at 4))
+rateAt s flags at = pick (eqb (flags / rateFlag % 2) 0) (RateOf NoRate at) (afterNumber BadRate (perNext s) (littleAt s at 4))
 
 abbrev pub extrasThen : Part → Part → RateAt → ℕ → Extras
 extrasThen peer digest rate next = ExtrasOf (record { peer = peer; digest = digest; rate = rate }) next
@@ -107,7 +108,7 @@ unfoldable pub extrasAt : List ℕ → ℕ → ℕ → Extras
 extrasAt s flags at = afterPart NoExtras (peerNext s flags) (peerAt s flags at)
 
 unfoldable pub audienceAt : List ℕ → ℕ → ℕ → PartStep
-audienceAt s flags at = pick (eqb (flags / 4 % 2) 0) (PartOf Absent at) (afterRun BadPart foundPart (textAt s 2 Printable 1 audMost at))
+audienceAt s flags at = pick (eqb (flags / audienceFlag % 2) 0) (PartOf Absent at) (afterRun BadPart foundPart (textAt s 2 Printable 1 audMost at))
 
 -- the strings, behind which nothing follows
 abbrev pub stringsOf : Span → Span → Span → Part → StringsAt

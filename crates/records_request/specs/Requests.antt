@@ -42,9 +42,26 @@ bare x = x
 unfoldable pub rateBytes : PerSecond → List ℕ
 rateBytes r = little 4 (r .per-s) ++ little 4 (r .burst)
 
--- 01: "flags (1: bit 0 amnesia, 1 IPv4 peer, 2 audience, 3 digest, 4 rate; others zero)"
+-- 01: "flags (1: bit 0 amnesia, 1 IPv4 peer, 2 audience, 3 digest, 4 rate; others zero)", each as the number it adds
+abbrev pub peerFlag : ℕ
+peerFlag = 2
+
+abbrev pub audienceFlag : ℕ
+audienceFlag = 4
+
+abbrev pub digestFlag : ℕ
+digestFlag = 8
+
+abbrev pub rateFlag : ℕ
+rateFlag = 16
+
+-- all of them together
+abbrev pub flagsMost : ℕ
+flagsMost = 31
+
 unfoldable pub flagsOf : Request → ℕ
-flagsOf x = pick (x .amnesia) 1 0 + present (x .peer) * 2 + present (x .audience) * 4 + present (x .digest) * 8 + present (x .rate) * 16
+flagsOf x =
+    pick (x .amnesia) 1 0 + present (x .peer) * peerFlag + present (x .audience) * audienceFlag + present (x .digest) * digestFlag + present (x .rate) * rateFlag
 
 -- 01: "then, if flagged, peer (4, the address bytes in written order), digest (64 lowercase hex digits), per_s and burst (4 each); then
 -- method .., path .., tenant .. and, if flagged, audience .., each after a two-byte length. Nothing follows. Numbers are little-endian."

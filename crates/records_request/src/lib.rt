@@ -8,6 +8,8 @@ use records::Run;
 ghost use mathlib.Core.Path.{_≡_};
 ghost use Rattle.records_request.specs.Reading.{fixedAt, peerAt, digestAt, rateAt, extrasAt, audienceAt, stringsAt, requestWith, fixedThen, requestOf};
 
+pub mod flag;
+
 // What stands in every body before the parts that the flags tell of.
 pub struct Numbers {
     pub now: u64,
@@ -95,7 +97,7 @@ fn fixed_at(s: &[u8]) -> Fixed
                         if limits::SKEW_MOST < skew {
                             return Fixed::Bad;
                         }
-                        if 31 < flags {
+                        if flag::MOST < flags {
                             return Fixed::Bad;
                         }
                         Fixed::Of {
@@ -117,7 +119,7 @@ fn fixed_at(s: &[u8]) -> Fixed
 fn peer_at(s: &[u8], flags: u64, at: usize) -> PartStep
     ensures { λ r. ⌜ r ≡ peerAt (now (s .entry)) flags at ⌝ }
 {
-    if flags / 2 % 2 == 0 {
+    if flags / flag::PEER % 2 == 0 {
         return PartStep::Of {
             part: Part::Absent,
             next: at,
@@ -135,7 +137,7 @@ fn peer_at(s: &[u8], flags: u64, at: usize) -> PartStep
 fn digest_at(s: &[u8], flags: u64, at: usize) -> PartStep
     ensures { λ r. ⌜ r ≡ digestAt (now (s .entry)) flags at ⌝ }
 {
-    if flags / 8 % 2 == 0 {
+    if flags / flag::DIGEST % 2 == 0 {
         return PartStep::Of {
             part: Part::Absent,
             next: at,
@@ -160,7 +162,7 @@ fn digest_at(s: &[u8], flags: u64, at: usize) -> PartStep
 fn rate_at(s: &[u8], flags: u64, at: usize) -> RateStep
     ensures { λ r. ⌜ r ≡ rateAt (now (s .entry)) flags at ⌝ }
 {
-    if flags / 16 % 2 == 0 {
+    if flags / flag::RATE % 2 == 0 {
         return RateStep::Of {
             rate: RateAt::Absent,
             next: at,
@@ -205,7 +207,7 @@ fn extras_at(s: &[u8], flags: u64, at: usize) -> Extras
 fn audience_at(s: &[u8], flags: u64, at: usize) -> PartStep
     ensures { λ r. ⌜ r ≡ audienceAt (now (s .entry)) flags at ⌝ }
 {
-    if flags / 4 % 2 == 0 {
+    if flags / flag::AUDIENCE % 2 == 0 {
         return PartStep::Of {
             part: Part::Absent,
             next: at,

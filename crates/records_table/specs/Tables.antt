@@ -10,7 +10,7 @@ use Rattle.cbor_strings.specs.declared.Class.the-variants.{Name}
 use Rattle.cbor_keys.specs.Maps.{GoodText}
 use Rattle.records.specs.Records.{counted, recordBytes}
 use Rattle.basis.specs.Basis.{pick}
-use Rattle.basis.specs.Limits.{nameMost, keyLength, rowsMost}
+use Rattle.basis.specs.Limits.{nameMost, keyLength, rowsMost, rowKind}
 use Rattle.records_table.specs.Order.{ascends, sameIds}
 
 pub record Row : Type 0 where
@@ -19,7 +19,7 @@ pub record Row : Type 0 where
   pub key : List ℕ
 
 unfoldable pub encodeRow : Row → List ℕ
-encodeRow r = recordBytes 1 (counted 1 (r .tid) ++ (counted 1 (r .kid) ++ r .key))
+encodeRow r = recordBytes rowKind (counted 1 (r .tid) ++ (counted 1 (r .kid) ++ r .key))
 
 unfoldable pub encodeTable : List Row → List ℕ
 encodeTable [] = []

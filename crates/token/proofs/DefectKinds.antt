@@ -6,7 +6,7 @@ use Prim.Native.Nat.{ℕ}
 use lib.Dec.{eqb}
 use lib.ListN.{length, drop}
 use Rattle.basis.proofs.Picks.{either}
-use Rattle.cbor_heads.specs.Counts.{readCount}
+use Rattle.cbor_heads.specs.Counts.{readCount, numberUpTo}
 use Rattle.cbor_strings.specs.Reading.{readRun}
 use Rattle.cbor_strings.specs.declared.Content.the-variants.{Of as Found, Bad as NoContent}
 use Rattle.cbor_strings.proofs.DefectKinds.{Kind, kind-4, kind-5, kind-6, ContentKind, count-kinds, run-kinds}
@@ -14,7 +14,7 @@ use Rattle.cbor_values.specs.Reading.{itemsOf}
 use Rattle.cbor_values.specs.declared.Item.the-variants.{End, Bad as NoItem}
 use Rattle.cbor_values.proofs.DefectKinds.{ItemKind, items-kinds}
 use Rattle.cbor_keys.specs.Reading.{wantedKey}
-use Rattle.cbor_keys.specs.Fields.{nameField, numberAt}
+use Rattle.cbor_keys.specs.Fields.{nameField}
 use Rattle.cbor_keys.specs.declared.Names.the-variants.{Token as TokenKeys}
 use Rattle.cbor_keys.proofs.DefectKinds.{item-step, content-step, count-step, wanted-kinds, number-kinds, name-field-kinds}
 use Rattle.token_scope.specs.Reading.{scopeOf}
@@ -108,7 +108,7 @@ module _ (s : List ℕ) where
   unfolding versionAt versionThen
   version-kinds at =
       count-step ItemKind NoItem (λ kind a h. h) (versionThen at) (λ n next. either ItemKind {x = End next} {y = NoItem 6 at} (eqb n 1) tt kind-6)
-      (numberAt s 0xffffffffffffffff at) (number-kinds s 0xffffffffffffffff at)
+      (numberUpTo 0xffffffffffffffff s at) (number-kinds s 0xffffffffffffffff at)
 
   version-field-kinds : (at : ℕ) → ItemKind (versionField s at)
   unfolding versionField

@@ -11,7 +11,7 @@ use Rattle.basis.specs.Basis.{ascii, fromTo, between, IsBytes}
 use Rattle.basis.specs.declared.Span.{Span}
 use Rattle.basis.proofs.Parts.{on, lies}
 use Rattle.cbor_heads.specs.Heads.{head}
-use Rattle.cbor_heads.specs.Counts.{readCount}
+use Rattle.cbor_heads.specs.Counts.{readCount, numberUpTo}
 use Rattle.cbor_strings.specs.Strings.{string}
 use Rattle.cbor_strings.specs.Reading.{readRun}
 use Rattle.cbor_strings.specs.declared.Content.the-variants.{Of as Found, Bad as NoContent}
@@ -23,7 +23,7 @@ use Rattle.cbor_values.specs.Reading.{itemsOf}
 use Rattle.cbor_values.specs.declared.Item.the-variants.{End, Bad as NoItem}
 use Rattle.cbor_keys.specs.Keys.{keysOf}
 use Rattle.cbor_keys.specs.Reading.{wantedKey}
-use Rattle.cbor_keys.specs.Fields.{nameField, numberAt}
+use Rattle.cbor_keys.specs.Fields.{nameField}
 use Rattle.cbor_keys.specs.Maps.{text, entry}
 use Rattle.cbor_keys.specs.declared.Names.the-variants.{Token as TokenKeys}
 use Rattle.cbor_keys.proofs.KeyLaws.{wanted-read}
@@ -141,7 +141,7 @@ version-read : (s : List ℕ) → IsBytes s → (at : ℕ) {next : ℕ} → vers
 unfolding versionField versionAt versionThen keysOf
 version-read s b at {next} e =
     let k = item-went never (versionAt s) (wantedKey TokenKeys s at 3) e in
-    let c = count-went never (versionThen (k .next)) (numberAt s 0xffffffffffffffff (k .next)) (k .goes) in
+    let c = count-went never (versionThen (k .next)) (numberUpTo 0xffffffffffffffff s (k .next)) (k .goes) in
     let t = must-take (End (c .next)) (NoItem 6 (k .next)) (never 6 (k .next)) (eqb (c .n) 1) (c .goes) in
     let h = there-head s b (k .next) (counted s (k .next) 0 0 0xffffffffffffffff 5 (c .was) .headed) in
     let x = eqb-true (c .n) 1 (t .0) in

@@ -1,7 +1,9 @@
--- Reading. Need not be believed: it is `readMap` with `tokenFields` (`token-map`), and the laws fix its parts. The one reading of a token:
--- its front, then its back. Document 01, "Reading order": "One reading, left to right; the first defect is the answer."
+-- Reading. Need not be believed: it ends where `readToken` does (`token-map`), and the laws fix its parts. A token as it lies. From the top:
+-- its front, c and r; then its back, s, v, kid and tid.
 use mathlib.Core.List.{List}
 use Prim.Native.Nat.{ℕ}
+use Rattle.cbor_values.specs.declared.Item.{Item}
+use Rattle.cbor_values.specs.declared.Item.the-variants.{End, Bad as NoItem}
 use Rattle.token_front.specs.declared.FrontAt.{FrontAt}
 use Rattle.token_front.specs.declared.FrontParts.{FrontParts}
 use Rattle.token_front.specs.declared.FrontParts.the-variants.{Of as FrontFound, Bad as NoFront}
@@ -28,3 +30,8 @@ tokenBy s (FrontFound front) = backThen front (backOf s (front .scope .to))
 
 abbrev pub tokenOf : List ℕ → TokenParts
 tokenOf s = tokenBy s (frontOf s)
+
+-- where the token ends, or its defect
+abbrev pub tokenEnd : TokenParts → Item
+tokenEnd (Bad kind at) = NoItem kind at
+tokenEnd (Of token) = End (token .tid .to)

@@ -4,7 +4,7 @@ use mathlib.Core.Path.{_≡_}
 use mathlib.Core.List.{List, [], _∷_, _++_}
 use Prim.Native.Nat.{ℕ, _≤_}
 use lib.ListN.{length}
-use Rattle.basis.specs.Limits.{caveatsMost, tagLength}
+use Rattle.basis.specs.Limits.{caveatsMost, tagLength, tokenVersion}
 use Rattle.cbor_heads.specs.Majors.{map, array, byteString, unsigned}
 use Rattle.cbor_heads.specs.Heads.{head}
 use Rattle.cbor_strings.specs.Strings.{string}
@@ -30,7 +30,7 @@ tokenBytes n caveats scope tag kid tid =
     ++ (entry "c" (head array n ++ caveats)
     ++ (entry "r" scope
     ++ (entry "s" (string byteString tag)
-    ++ (entry "v" (head unsigned 1)
+    ++ (entry "v" (head unsigned tokenVersion)
     ++ (entry "kid" (text kid)
     ++ entry "tid" (text tid))))))
 

@@ -1,7 +1,5 @@
--- Reading. Need not be believed: it is the back of `readMap` with `tokenFields` (`token-map`), and the laws fix its parts. The one reading
--- of a token's back: s, v, kid, tid and nothing behind them. Document 01, "Reading order": "the token's v a well-formed unsigned number
--- other than 1: schema.unknown_field; a v of another type is parse.cbor"; "s and digest have none [no length range] either: a wrong length
--- is parse.cbor"; "All else, and bytes left over: parse.cbor".
+-- Reading. Need not be believed: it is the back of `readToken` (`token-map`), and the laws fix its parts. A token's back as it lies. From the
+-- top: the keys s, v, kid and tid, each in its place, with their values; and nothing behind them.
 use mathlib.Core.List.{List}
 use Prim.Native.Nat.{ℕ}
 use lib.Dec.{eqb}

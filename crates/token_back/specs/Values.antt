@@ -5,14 +5,14 @@ use mathlib.Core.List.{List}
 use Prim.Native.Nat.{ℕ}
 use lib.Dec.{eqb}
 use Rattle.basis.specs.Basis.{pick}
-use Rattle.basis.specs.Limits.{tagLength, numberMost}
+use Rattle.basis.specs.Limits.{tagLength, numberMost, tokenVersion}
+use Rattle.cbor_heads.specs.Counts.{numberUpTo}
 use Rattle.cbor_heads.specs.Majors.{parseCbor, byteString, unknownField}
 use Rattle.cbor_strings.specs.Reading.{readRun}
 use Rattle.cbor_strings.specs.declared.Content.{Content}
 use Rattle.cbor_strings.specs.declared.Content.the-variants.{Of as Found, Bad as NoContent}
 use Rattle.cbor_values.specs.declared.Item.{Item}
 use Rattle.cbor_values.specs.declared.Item.the-variants.{End, Bad as NoItem}
-use Rattle.cbor_keys.specs.Fields.{numberAt}
 use Rattle.cbor_keys.specs.Steps.{afterContent, afterCount}
 
 -- s: any defect of the tag is parse.cbor, its length too
@@ -24,7 +24,7 @@ tagAt s at = afterContent tagBad Found (readRun s at byteString tagLength tagLen
 
 -- v
 unfoldable pub versionThen : ℕ → ℕ → ℕ → Item
-versionThen at n next = pick (eqb n 1) (End next) (NoItem unknownField at)
+versionThen at n next = pick (eqb n tokenVersion) (End next) (NoItem unknownField at)
 
 unfoldable pub versionAt : List ℕ → ℕ → Item
-versionAt s at = afterCount NoItem (versionThen at) (numberAt s numberMost at)
+versionAt s at = afterCount NoItem (versionThen at) (numberUpTo numberMost s at)

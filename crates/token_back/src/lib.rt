@@ -50,17 +50,10 @@ fn version_field(s: &[u8], at: usize) -> Item
 {
     match cbor_keys::wanted_key(s, at, Names::Token, index::TOKEN_V) {
         Item::Bad { kind, at: a } => Item::Bad { kind, at: a },
-        Item::End { next: p } => match cbor_heads::read_count(
-            s,
-            p,
-            major::UNSIGNED,
-            0,
-            limits::NUMBER_MOST,
-            BOUNDS,
-        ) {
+        Item::End { next: p } => match cbor_heads::number_up_to(s, p, limits::NUMBER_MOST) {
             Count::Bad { kind, at: a } => Item::Bad { kind, at: a },
             Count::Of { n, next } => {
-                if n == 1 {
+                if n == limits::TOKEN_VERSION {
                     return Item::End { next };
                 }
                 Item::Bad {

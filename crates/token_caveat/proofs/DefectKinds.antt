@@ -5,7 +5,7 @@ use Prim.{Unit, tt}
 use Prim.Native.Nat.{ℕ}
 use Rattle.basis.specs.Basis.{fromTo, between}
 use Rattle.basis.specs.declared.Span.{Span}
-use Rattle.cbor_heads.specs.Counts.{readCount}
+use Rattle.cbor_heads.specs.Counts.{readCount, numberUpTo}
 use Rattle.cbor_strings.specs.Reading.{readRun, readString}
 use Rattle.cbor_strings.specs.declared.Class.{Class}
 use Rattle.cbor_strings.specs.declared.Class.the-variants.{Hex}
@@ -16,7 +16,7 @@ use Rattle.token_cidr.specs.Reading.{cidrOf}
 use Rattle.token_cidr.specs.declared.Cidr.{Cidr}
 use Rattle.token_cidr.specs.declared.Cidr.the-variants.{Of as CidrOf, Bad as NoCidr}
 use Rattle.cbor_keys.specs.Reading.{keyAt, wantedKey}
-use Rattle.cbor_keys.specs.Fields.{nameField, numberAt, numberField}
+use Rattle.cbor_keys.specs.Fields.{nameField, numberField}
 use Rattle.cbor_keys.specs.declared.Names.the-variants.{Caveat as CaveatKeys, T, Rate as RateKeys, Custom as CustomKeys}
 use Rattle.cbor_keys.proofs.DefectKinds.{item-step, content-step, count-step, key-step, key-kinds, wanted-kinds, number-kinds, name-field-kinds, number-field-kinds}
 use Rattle.token_scope.specs.Methods.{methodsOf}
@@ -47,7 +47,7 @@ cidr-by part (CidrOf network) = tt
 module _ (s : List ℕ) where
   number-value-kinds : (make : ℕ → CaveatAt) (at : ℕ) → CaveatKind (numberValue make s at)
   unfolding numberValue
-  number-value-kinds make at = count-step CaveatKind Bad defect (numberThen make) (λ n next. tt) (numberAt s 0xffffffffffffffff at) (number-kinds s 0xffffffffffffffff at)
+  number-value-kinds make at = count-step CaveatKind Bad defect (numberThen make) (λ n next. tt) (numberUpTo 0xffffffffffffffff s at) (number-kinds s 0xffffffffffffffff at)
 
   text-value-kinds : (make : Span → CaveatAt) (class : Class) (high at : ℕ) → CaveatKind (textValue make class high s at)
   unfolding textValue

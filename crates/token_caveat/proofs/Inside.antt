@@ -8,7 +8,7 @@ use lib.ListN.{length}
 use Rattle.basis.specs.Basis.{fromTo, between}
 use Rattle.basis.specs.declared.Span.{Span}
 use Rattle.basis.proofs.Picks.{either}
-use Rattle.cbor_heads.specs.Counts.{readCount}
+use Rattle.cbor_heads.specs.Counts.{readCount, numberUpTo}
 use Rattle.cbor_strings.specs.Reading.{readRun, readString}
 use Rattle.cbor_strings.specs.declared.Class.{Class}
 use Rattle.cbor_strings.specs.declared.Class.the-variants.{Name, Printable, Path, Hex}
@@ -19,7 +19,7 @@ use Rattle.token_cidr.specs.Reading.{cidrOf}
 use Rattle.token_cidr.specs.declared.Cidr.{Cidr}
 use Rattle.token_cidr.specs.declared.Cidr.the-variants.{Of as CidrOf, Bad as NoCidr}
 use Rattle.cbor_keys.specs.Reading.{keyAt, wantedKey}
-use Rattle.cbor_keys.specs.Fields.{nameField, numberAt, numberField}
+use Rattle.cbor_keys.specs.Fields.{nameField, numberField}
 use Rattle.cbor_keys.specs.declared.Names.the-variants.{Caveat as CaveatKeys, T, Rate as RateKeys, Custom as CustomKeys}
 use Rattle.cbor_keys.specs.Indexes.{ratePerS, rateBurst, customNs, customCbor, customName, caveatT, caveatV}
 use Rattle.cbor_keys.specs.Indexes.{tExp, tNbf, tAud, tMethod, tPathPrefix, tIpCidr, tBytesLe, tRate, tTenant, tAmnesia, tGovPolicyDigest, tCustom}
@@ -73,7 +73,7 @@ module _ (s : List ℕ) where
 
   number-value-in : (make : ℕ → CaveatAt) (at : ℕ) → at ≤ size → In (numberValue make s at)
   unfolding numberValue
-  number-value-in make at h = count-step In size Bad defect (numberThen make) (λ n next g. g) (numberAt s 0xffffffffffffffff at) (count-in s at 0 0 0xffffffffffffffff 5 h)
+  number-value-in make at h = count-step In size Bad defect (numberThen make) (λ n next g. g) (numberUpTo 0xffffffffffffffff s at) (count-in s at 0 0 0xffffffffffffffff 5 h)
 
   text-value-in : (make : Span → CaveatAt) (class : Class) (high at : ℕ) → at ≤ size → In (textValue make class high s at)
   unfolding textValue

@@ -11,7 +11,7 @@ use Rattle.basis.specs.Basis.{ascii, fromTo, between, IsBytes}
 use Rattle.basis.specs.declared.Span.{Span}
 use Rattle.basis.proofs.Parts.{on, lies}
 use Rattle.cbor_heads.specs.Heads.{head}
-use Rattle.cbor_heads.specs.Counts.{readCount}
+use Rattle.cbor_heads.specs.Counts.{readCount, numberUpTo}
 use Rattle.cbor_strings.specs.Reading.{readRun, readString}
 use Rattle.cbor_strings.specs.declared.Class.{Class}
 use Rattle.cbor_strings.specs.declared.Class.the-variants.{Name, Printable, Path, Hex}
@@ -28,7 +28,7 @@ use Rattle.token_cidr.specs.declared.Cidr.the-variants.{Of as CidrOf, Bad as No
 use Rattle.token_cidr.proofs.TextLaws.{prefixOf, reads-text}
 use Rattle.cbor_keys.specs.Keys.{keysOf}
 use Rattle.cbor_keys.specs.Reading.{wantedKey}
-use Rattle.cbor_keys.specs.Fields.{nameField, numberAt, numberField}
+use Rattle.cbor_keys.specs.Fields.{nameField, numberField}
 use Rattle.cbor_keys.specs.Maps.{text, entry}
 use Rattle.cbor_keys.specs.declared.Names.the-variants.{Rate as RateKeys, Custom as CustomKeys}
 use Rattle.cbor_keys.proofs.KeyLaws.{wanted-read}
@@ -78,7 +78,7 @@ module _ (s : List ℕ) (b : IsBytes s) (at : ℕ) (part : CaveatAt) (next : ℕ
   number-read : (make : ℕ → CaveatAt) → numberValue make s at ≡ Of part next → (n q : ℕ) × (n < 2 ^ 64) × (Of (make n) q ≡ Of part next) × (drop at s ≡ head 0 n ++ drop q s)
   unfolding numberValue
   number-read make e =
-      let w = count-went never (numberThen make) (numberAt s 0xffffffffffffffff at) e in
+      let w = count-went never (numberThen make) (numberUpTo 0xffffffffffffffff s at) e in
       let c = counted s at 0 0 0xffffffffffffffff 5 (w .was) in
       (w .n, w .next, omega (arith, c .few), w .goes, there-head s b at (c .headed))
 

@@ -6,7 +6,7 @@ use Prim.Native.Nat.{ℕ, _<_, _^_}
 use Prim.Native.String.{String}
 use Rattle.basis.specs.Basis.{ascii}
 use Rattle.basis.specs.Limits.{nameMost, audMost, digestLength, depthMost}
-use Rattle.cbor_heads.specs.Majors.{unsigned, map, simple}
+use Rattle.cbor_heads.specs.Majors.{unsigned, map, simple, simpleFalse, simpleTrue}
 use Rattle.cbor_heads.specs.Heads.{head}
 use Rattle.cbor_strings.specs.declared.Class.the-variants.{Name, Printable, Hex}
 use Rattle.cbor_values.specs.Trees.{Value, encode, Good}
@@ -43,10 +43,9 @@ tOf (amnesia b) = "amnesia"
 tOf (gov-policy-digest d) = "gov_policy_digest"
 tOf (custom ns name value) = "custom"
 
--- RFC 8949, 3.3: false is simple value 20, true is 21
 abbrev pub simpleOf : Bool → ℕ
-simpleOf false = 20
-simpleOf true = 21
+simpleOf false = simpleFalse
+simpleOf true = simpleTrue
 
 unfoldable pub vOf : Caveat → List ℕ
 vOf (exp n) = head unsigned n

@@ -1,9 +1,8 @@
--- Reading. Need not be believed: it is `readMap` with `caveatFields` (`caveat-map`), and the laws fix its parts. The one reading of a
--- caveat. Document 01, "Reading order": map heads and keys as everywhere; "Unknown t ..: schema.unknown_field". t is judged before the key
--- v is seen; the value is read as its t says.
+-- Reading. Need not be believed: it ends where `readCaveat` does (`caveat-map`), and the laws fix its parts. A caveat as it lies. From the
+-- top: the map's head, of two entries; the key t and its name, which is judged before the key v is seen; the key v, and the value as t says.
 use mathlib.Core.List.{List}
 use Prim.Native.Nat.{ℕ}
-use Rattle.cbor_heads.specs.Counts.{readCount, mapWith}
+use Rattle.cbor_heads.specs.Counts.{mapWith}
 use Rattle.cbor_keys.specs.Reading.{keyAt, wantedKey}
 use Rattle.cbor_keys.specs.Indexes.{caveatT, caveatV}
 use Rattle.cbor_keys.specs.Steps.{afterItem, afterCount, afterKey}

@@ -1,4 +1,5 @@
--- Reading. The value of v, as its t says. Document 01, "Token bytes".
+-- Reading. Need not be believed: it ends where `readV` does (`value-ends`), and the laws fix its parts. The value of v as it lies, as its t
+-- says.
 use mathlib.Core.List.{List}
 use Prim.Native.Nat.{ℕ}
 use lib.Dec.{eqb}

@@ -60,7 +60,7 @@ fn value_at(s: &[u8], at: usize, t: u32) -> CaveatParts
 pub fn read_caveat(s: &[u8]) -> CaveatParts
     ensures { λ r. ⌜ r ≡ caveatOf (now (s .entry)) ⌝ }
 {
-    match cbor_heads::read_count(s, 0, major::MAP, 2, 2, UNKNOWN) {
+    match cbor_heads::map_with(s, 0, 2, 2) {
         Count::Bad { kind, at: a } => CaveatParts::Bad { kind, at: a },
         Count::Of { n: _, next: p } => match cbor_keys::wanted_key(
             s,

@@ -4,7 +4,7 @@ use mathlib.Core.List.{List, [], _∷_}
 use Prim.Native.Nat.{ℕ}
 use native.Mathlib.Omega.{arith}
 use Rattle.basis.specs.declared.Span.{Span}
-use Rattle.cbor_heads.specs.Counts.{readCount}
+use Rattle.cbor_heads.specs.Counts.{readCount, numberUpTo}
 use Rattle.cbor_heads.specs.declared.Count.{Count}
 use Rattle.cbor_heads.specs.declared.Count.the-variants.{Of as Counted, Bad as NoCount}
 use Rattle.cbor_heads.proofs.CountLaws.{counted}
@@ -12,33 +12,34 @@ use Rattle.cbor_values.specs.Reading.{valueOf}
 use Rattle.cbor_values.specs.declared.Item.{Item}
 use Rattle.cbor_values.specs.declared.Item.the-variants.{Bad as NoItem}
 use Rattle.cbor_keys.specs.Reading.{wantedKey}
-use Rattle.cbor_keys.specs.Fields.{nameAt, numberAt}
+use Rattle.cbor_keys.specs.Fields.{nameAt}
 use Rattle.cbor_keys.specs.Steps.{afterItem, afterCount}
-use Rattle.cbor_keys.specs.ReadMap.{Field, required, contentEnd, countEnd, requiredOf, entriesOf, readMap}
+use Rattle.cbor_keys.specs.ReadMap.{Field, required, contentEnd, countEnd, requiredOf, entriesOf}
 use Rattle.cbor_keys.specs.declared.Names.the-variants.{Rate, Custom}
 use Rattle.cbor_keys.proofs.MapLaws.{required-next, item-end, content-field, count-field}
 use Rattle.token_caveat_values.specs.Maps.{burstThen, rateMap, rateValue, customEnd, customThen, nsThen, customMap, customValue}
-use Rattle.token_caveat_values.specs.Fields.{partsEnd, rateFields, customFields}
+use Rattle.token_caveat_values.specs.Values.{partsEnd}
+use Rattle.token_caveat_values.specs.Fields.{rateFields, readRate, customFields, readCustom}
 use Rattle.token_caveat_values.specs.declared.CaveatParts.the-variants.{Bad}
 
 module _ (s : List ℕ) (map : ℕ) where
   abbrev number : List ℕ → ℕ → Item
-  number before at = countEnd (numberAt s 0xffffffff at)
+  number before at = countEnd (numberUpTo 0xffffffff s at)
 
   per-s-read : (before : List ℕ) (burst at : ℕ) → partsEnd (burstThen s burst at) ≡ entriesOf Rate s map 1 1 (required (number []) ∷ []) before at
   unfolding burstThen entriesOf requiredOf
   per-s-read before burst at =
-      count-field partsEnd Bad (λ kind a. refl) (λ p. entriesOf Rate s map 0 2 [] (p ∷ before)) (λ p n next. refl) (numberAt s 0xffffffff) (wantedKey Rate s at 1)
+      count-field partsEnd Bad (λ kind a. refl) (λ p. entriesOf Rate s map 0 2 [] (p ∷ before)) (λ p n next. refl) (numberUpTo 0xffffffff s) (wantedKey Rate s at 1)
       ∙ sym (required-next Rate s map 0 1 number [] before at)
 
   rate-entries : (n at : ℕ) → partsEnd (rateMap s n at) ≡ entriesOf Rate s map 2 0 (rateFields s) [] at
   unfolding rateMap
   rate-entries n at =
       count-field partsEnd Bad (λ kind a. refl) (λ p. entriesOf Rate s map 1 1 (required (number []) ∷ []) (p ∷ [])) (λ p burst next. per-s-read (p ∷ []) burst next)
-      (numberAt s 0xffffffff) (wantedKey Rate s at 0)
+      (numberUpTo 0xffffffff s) (wantedKey Rate s at 0)
       ∙ sym (required-next Rate s map 1 0 number (required (number []) ∷ []) [] at)
 
-  pub rate-map : partsEnd (rateValue s map) ≡ readMap Rate (rateFields s) s map
+  pub rate-map : partsEnd (rateValue s map) ≡ readRate s map
   unfolding rateValue requiredOf
   rate-map = by (readCount s map 5 2 2 6) refl
     where
@@ -70,7 +71,7 @@ module _ (s : List ℕ) (map : ℕ) where
       (λ p ns. value-read (p ∷ []) ns) (nameAt s) (wantedKey Custom s at 0)
       ∙ sym (required-next Custom s map 2 0 name (required (valueOf 4 s) ∷ required (name []) ∷ []) [] at)
 
-  pub custom-map : partsEnd (customValue s map) ≡ readMap Custom (customFields s) s map
+  pub custom-map : partsEnd (customValue s map) ≡ readCustom s map
   unfolding customValue requiredOf
   custom-map = by (readCount s map 5 3 3 6) refl
     where

@@ -1,11 +1,11 @@
--- Reading. Need not be believed: it is `readMap` with `rateFields` and `customFields` (`rate-map`, `custom-map`), and the laws fix its
--- parts. A rate and a custom value, entry by entry.
+-- Reading. Need not be believed: they end where `readRate` and `readCustom` do (`rate-map`, `custom-map`), and the laws fix their parts. A
+-- rate and a custom value as they lie. From the top: the map's head, with just its keys; then each key in its place, and its value.
 use mathlib.Core.List.{List}
 use Prim.Native.Nat.{ℕ}
 use Rattle.basis.specs.Basis.{fromTo}
 use Rattle.basis.specs.declared.Span.{Span}
 use Rattle.basis.specs.Limits.{rateMost, depthMost}
-use Rattle.cbor_heads.specs.Counts.{readCount, mapWith}
+use Rattle.cbor_heads.specs.Counts.{mapWith}
 use Rattle.cbor_values.specs.Reading.{valueOf}
 use Rattle.cbor_keys.specs.Reading.{wantedKey}
 use Rattle.cbor_keys.specs.Fields.{nameField, numberField}

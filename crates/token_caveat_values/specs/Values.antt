@@ -1,35 +1,40 @@
--- Reading. The one reading of a caveat's value, for each kind of value. Document 01, "Reading order": map heads, keys, strings and numbers
--- as everywhere; "s and digest have none [no length range] either: a wrong length is parse.cbor. ip_cidr has none and is judged whole as
--- content, whatever its length. .. rate number over range: parse.bounds."
+-- Reading. Need not be believed: each ends where its reading in Fields does (the laws of proofs/Ends.antt), and the laws fix its parts. The
+-- value of a caveat as it lies, by its kind: the item is read, and the caveat made of it.
 use mathlib.Core.List.{List}
 use Prim.Native.Nat.{ℕ}
 use lib.Dec.{eqb}
 use Rattle.basis.specs.Basis.{between}
 use Rattle.basis.specs.declared.Span.{Span}
 use Rattle.basis.specs.Limits.{numberMost, digestLength}
-use Rattle.cbor_heads.specs.Majors.{parseCbor, textString, simple}
-use Rattle.cbor_heads.specs.Counts.{readCount}
+use Rattle.cbor_heads.specs.Majors.{parseCbor, textString, simple, simpleFalse, simpleTrue}
+use Rattle.cbor_heads.specs.Counts.{readCount, numberUpTo}
 use Rattle.cbor_strings.specs.Reading.{readRun, readString}
 use Rattle.cbor_strings.specs.declared.Class.{Class}
 use Rattle.cbor_strings.specs.declared.Class.the-variants.{Hex}
 use Rattle.token_cidr.specs.Reading.{cidrOf}
 use Rattle.token_cidr.specs.declared.Cidr.{Cidr}
 use Rattle.token_cidr.specs.declared.Cidr.the-variants.{Of as CidrOf, Bad as NoCidr}
-use Rattle.cbor_keys.specs.Fields.{numberAt}
 use Rattle.cbor_keys.specs.Steps.{afterContent, afterCount}
 use Rattle.cbor_values.specs.declared.ListAt.{ListAt}
+use Rattle.cbor_values.specs.declared.Item.{Item}
+use Rattle.cbor_values.specs.declared.Item.the-variants.{End, Bad as NoItem}
 use Rattle.token_scope.specs.Methods.{methodsOf, afterMethods}
 use Rattle.token_caveat_values.specs.declared.CaveatAt.{CaveatAt}
 use Rattle.token_caveat_values.specs.declared.CaveatAt.the-variants.{Method, IpCidr, Amnesia, GovPolicyDigest}
 use Rattle.token_caveat_values.specs.declared.CaveatParts.{CaveatParts}
 use Rattle.token_caveat_values.specs.declared.CaveatParts.the-variants.{Of, Bad}
 
+-- where a value ends, or its defect
+abbrev pub partsEnd : CaveatParts → Item
+partsEnd (Bad kind at) = NoItem kind at
+partsEnd (Of caveat next) = End next
+
 -- exp, nbf, bytes_le: "any unsigned 64-bit number"; `make` is the caveat of such a number
 abbrev pub numberThen : (ℕ → CaveatAt) → ℕ → ℕ → CaveatParts
 numberThen make n next = Of (make n) next
 
 unfoldable pub numberValue : (ℕ → CaveatAt) → List ℕ → ℕ → CaveatParts
-numberValue make s at = afterCount Bad (numberThen make) (numberAt s numberMost at)
+numberValue make s at = afterCount Bad (numberThen make) (numberUpTo numberMost s at)
 
 -- aud, path_prefix, tenant: 1 to `high` bytes of their class; `make` is the caveat of such a text
 abbrev pub textThen : (Span → CaveatAt) → Span → CaveatParts
@@ -64,9 +69,8 @@ cidrThen s part = cidrBy part (cidrOf (between s part))
 unfoldable pub cidrValue : List ℕ → ℕ → CaveatParts
 cidrValue s at = afterContent Bad (cidrThen s) (readRun s at textString 0 numberMost)
 
--- RFC 8949, 3.3: false is simple value 20, true is 21
 abbrev pub flagThen : ℕ → ℕ → CaveatParts
-flagThen n next = Of (Amnesia (eqb n 21)) next
+flagThen n next = Of (Amnesia (eqb n simpleTrue)) next
 
 unfoldable pub amnesiaValue : List ℕ → ℕ → CaveatParts
-amnesiaValue s at = afterCount Bad flagThen (readCount s at simple 20 21 parseCbor)
+amnesiaValue s at = afterCount Bad flagThen (readCount s at simple simpleFalse simpleTrue parseCbor)

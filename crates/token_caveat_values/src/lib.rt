@@ -89,7 +89,7 @@ fn of_text(which: TextOf, span: Span) -> CaveatAt
 pub fn number_value(s: &[u8], at: usize, which: NumberOf) -> CaveatParts
     ensures { λ r. ⌜ r ≡ numberValue (ofNumber which) (now (s .entry)) at ⌝ }
 {
-    match cbor_heads::read_count(s, at, major::UNSIGNED, 0, limits::NUMBER_MOST, BOUNDS) {
+    match cbor_heads::number_up_to(s, at, limits::NUMBER_MOST) {
         Count::Bad { kind, at: a } => CaveatParts::Bad { kind, at: a },
         Count::Of { n, next } => {
             let caveat = of_number(which, n);
@@ -169,13 +169,13 @@ pub fn cidr_value(s: &[u8], at: usize) -> CaveatParts
 pub fn rate_value(s: &[u8], at: usize) -> CaveatParts
     ensures { λ r. ⌜ r ≡ rateValue (now (s .entry)) at ⌝ }
 {
-    match cbor_heads::read_count(s, at, major::MAP, 2, 2, UNKNOWN) {
+    match cbor_heads::map_with(s, at, 2, 2) {
         Count::Bad { kind, at: a } => CaveatParts::Bad { kind, at: a },
         Count::Of { n: _, next: p } => match cbor_keys::number_field(
             s,
             p,
             Names::Rate,
-            0,
+            index::RATE_BURST,
             limits::RATE_MOST,
         ) {
             Count::Bad { kind, at: a } => CaveatParts::Bad { kind, at: a },
@@ -199,10 +199,12 @@ pub fn rate_value(s: &[u8], at: usize) -> CaveatParts
 pub fn amnesia_value(s: &[u8], at: usize) -> CaveatParts
     ensures { λ r. ⌜ r ≡ amnesiaValue (now (s .entry)) at ⌝ }
 {
-    match cbor_heads::read_count(s, at, major::SIMPLE, 20, 21, CBOR) {
+    match cbor_heads::read_count(s, at, major::SIMPLE, major::FALSE, major::TRUE, CBOR) {
         Count::Bad { kind, at: a } => CaveatParts::Bad { kind, at: a },
         Count::Of { n, next } => CaveatParts::Of {
-            caveat: CaveatAt::Amnesia { on: n == 21 },
+            caveat: CaveatAt::Amnesia {
+                on: n == major::TRUE,
+            },
             next,
         },
     }
@@ -241,7 +243,7 @@ fn custom_then(s: &[u8], ns: Span) -> CaveatParts
 pub fn custom_value(s: &[u8], at: usize) -> CaveatParts
     ensures { λ r. ⌜ r ≡ customValue (now (s .entry)) at ⌝ }
 {
-    match cbor_heads::read_count(s, at, major::MAP, 3, 3, UNKNOWN) {
+    match cbor_heads::map_with(s, at, 3, 3) {
         Count::Bad { kind, at: a } => CaveatParts::Bad { kind, at: a },
         Count::Of { n: _, next: p } => match cbor_keys::name_field(
             s,

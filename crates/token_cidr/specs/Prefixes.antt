@@ -5,6 +5,7 @@ use mathlib.Core.List.{List, [], _∷_, _++_}
 use Prim.Native.Nat.{ℕ, _+_, _-_, _*_, _/_, _%_, _^_, _<_, _≤_}
 use lib.Dec.{ltb}
 use Rattle.basis.specs.Basis.{pick}
+use Rattle.basis.specs.Limits.{cidrMost}
 
 -- a number below 1,000 without leading zeros
 unfoldable pub decimal : ℕ → List ℕ
@@ -34,5 +35,5 @@ pub record GoodPrefix (p : Prefix) : Type 0 where
   pub b-byte : p .b < 256
   pub c-byte : p .c < 256
   pub d-byte : p .d < 256
-  pub short : p .size ≤ 32
-  pub zeros : addressOf (p .a) (p .b) (p .c) (p .d) % 2 ^ (32 - p .size) ≡ 0
+  pub short : p .size ≤ cidrMost
+  pub zeros : addressOf (p .a) (p .b) (p .c) (p .d) % 2 ^ (cidrMost - p .size) ≡ 0

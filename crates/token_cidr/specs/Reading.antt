@@ -5,6 +5,7 @@ use Prim.Native.Nat.{ℕ, _+_, _-_, _*_, _%_, _^_}
 use lib.Dec.{ltb, eqb}
 use lib.ListN.{length, drop, getD}
 use Rattle.basis.specs.Basis.{pick}
+use Rattle.basis.specs.Limits.{cidrMost}
 use Rattle.token_cidr.specs.Prefixes.{addressOf}
 use Rattle.token_cidr.specs.declared.Decimal.{Decimal}
 use Rattle.token_cidr.specs.declared.Decimal.the-variants.{Got, No}
@@ -45,7 +46,7 @@ partAt s at mark = partBy s mark (decimalAt s at)
 -- the number of bits, and nothing behind it
 unfoldable pub sizeBy : List ℕ → Decimal → Decimal
 sizeBy s No = No
-sizeBy s (Got v next) = pick (ltb 32 v) No (pick (eqb next (length s)) (Got v next) No)
+sizeBy s (Got v next) = pick (ltb cidrMost v) No (pick (eqb next (length s)) (Got v next) No)
 
 abbrev pub sizeAt : List ℕ → ℕ → Decimal
 sizeAt s at = sizeBy s (decimalAt s at)
@@ -60,7 +61,7 @@ netOf a b c d n = record { a = a; b = b; c = c; d = d; size = n }
 
 -- the steps of a.b.c.d/n, each named after what has been read before it; 46 is ".", 47 is "/"
 unfoldable pub zerosOf : ℕ → ℕ → ℕ → ℕ → ℕ → ℕ → Cidr
-zerosOf a b c d n next = pick (eqb (addressOf a b c d % 2 ^ (32 - n)) 0) (Of (netOf a b c d n)) Bad
+zerosOf a b c d n next = pick (eqb (addressOf a b c d % 2 ^ (cidrMost - n)) 0) (Of (netOf a b c d n)) Bad
 
 unfoldable pub afterD : List ℕ → ℕ → ℕ → ℕ → ℕ → ℕ → Cidr
 afterD s a b c d at = afterDecimal (sizeAt s at) (zerosOf a b c d)

@@ -1,8 +1,10 @@
 // The text of an IPv4 prefix, judged whole: one spelling for each prefix, anything else is refused.
 // And whether first bits agree, over strings of bytes of any length, so that no width is written here.
+use basis::limits;
 ghost use mathlib.Core.Path.{_≡_};
 ghost use Prim.Native.Nat.{_-_, _%_, _^_};
 ghost use lib.Dec.{eqb};
+ghost use Rattle.basis.specs.Limits.{cidrMost};
 ghost use Rattle.token_cidr.specs.Bits.{agreeOf};
 ghost use Rattle.token_cidr.specs.Prefixes.{addressOf};
 ghost use Rattle.token_cidr.specs.Reading.{digitAt, decimalAt, partAt, sizeAt, cidrOf};
@@ -106,7 +108,7 @@ fn size_at(s: &[u8], at: usize) -> Decimal
     let Decimal::Got { value: v, next } = decimal_at(s, at) else {
         return Decimal::No;
     };
-    if 32 < v {
+    if limits::CIDR_MOST < v {
         return Decimal::No;
     }
     if next == s.len() {
@@ -118,10 +120,10 @@ fn size_at(s: &[u8], at: usize) -> Decimal
 // Whether the bits of the address past the first n are zero.
 fn zeros_past(a: u32, b: u32, c: u32, d: u32, n: u32) -> bool
     requires { ⌜ Bytes4 a b c d n ⌝ }
-    ensures { λ r. ⌜ r ≡ eqb (addressOf a b c d % 2 ^ (32 - n)) 0 ⌝ }
+    ensures { λ r. ⌜ r ≡ eqb (addressOf a b c d % 2 ^ (cidrMost - n)) 0 ⌝ }
 {
     let address = ((a as u64 * 256 + b as u64) * 256 + c as u64) * 256 + d as u64;
-    let unit: u64 = 1 << (32 - n);
+    let unit: u64 = 1 << (limits::CIDR_MOST - n);
     address % unit == 0
 }
 

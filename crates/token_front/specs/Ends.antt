@@ -1,5 +1,4 @@
--- Reading. Where a caveat of a token ends. Document 01, "Chain": "Each caveat is read and hashed where it lies in the middle of the decoded
--- token."
+-- Reading. Need not be believed: it is `readCaveatAt` of `token` (`token-map`). Where a caveat ends that begins at a place of the token.
 use mathlib.Core.List.{List}
 use Prim.Native.Nat.{ℕ, _+_}
 use lib.ListN.{drop}
@@ -9,7 +8,7 @@ use Rattle.token_caveat.specs.Reading.{caveatOf}
 use Rattle.token_caveat_values.specs.declared.CaveatParts.{CaveatParts}
 use Rattle.token_caveat_values.specs.declared.CaveatParts.the-variants.{Of as CaveatFound, Bad as NoCaveat}
 
--- "Each caveat is read .. where it lies in the middle of the decoded token": from its first byte on, its places counted in the token
+-- read from its first byte on; its places are counted in the token
 unfoldable pub endBy : ℕ → CaveatParts → Item
 endBy at (NoCaveat kind a) = NoItem kind (at + a)
 endBy at (CaveatFound caveat n) = End (at + n)

@@ -1,5 +1,5 @@
--- Reading. Need not be believed: it is the front of `readMap` with `tokenFields` (`token-map`), and the laws fix its parts. The one reading
--- of a token's front: its map's head, c and r. Document 01, "Reading order": "Array count over its limit ..: parse.bounds".
+-- Reading. Need not be believed: it is the front of `readToken` (`token-map`), and the laws fix its parts. A token's front as it lies. From
+-- the top: the map's head, of six entries; the key c, the array's head, and each caveat; the key r and the scope.
 use mathlib.Core.List.{List}
 use Prim.Native.Nat.{ℕ}
 use Rattle.basis.specs.Basis.{fromTo}

@@ -97,7 +97,7 @@ fn caveats_then(s: &[u8], count: u64, from: usize) -> FrontParts
 pub fn read_front(s: &[u8]) -> FrontParts
     ensures { λ r. ⌜ r ≡ frontOf (now (s .entry)) ⌝ }
 {
-    match cbor_heads::read_count(s, 0, major::MAP, 6, 6, UNKNOWN) {
+    match cbor_heads::map_with(s, 0, 6, 6) {
         Count::Bad { kind, at: a } => FrontParts::Bad { kind, at: a },
         Count::Of { n: _, next: p } => match cbor_keys::wanted_key(
             s,
@@ -106,14 +106,7 @@ pub fn read_front(s: &[u8]) -> FrontParts
             index::TOKEN_C,
         ) {
             Item::Bad { kind, at: a } => FrontParts::Bad { kind, at: a },
-            Item::End { next: q } => match cbor_heads::read_count(
-                s,
-                q,
-                major::ARRAY,
-                0,
-                limits::CAVEATS_MOST,
-                BOUNDS,
-            ) {
+            Item::End { next: q } => match cbor_heads::array_up_to(s, q, limits::CAVEATS_MOST) {
                 Count::Bad { kind, at: a } => FrontParts::Bad { kind, at: a },
                 Count::Of {
                     n: count,

@@ -21,7 +21,9 @@ use Rattle.cbor_keys.specs.Reading.{keyAt, wantedKey}
 use Rattle.cbor_keys.specs.Fields.{numberField}
 use Rattle.cbor_keys.specs.declared.Names.the-variants.{Scope}
 use Rattle.cbor_keys.proofs.DefectKinds.{item-step, content-step, count-step, key-step, key-kinds, wanted-kinds, number-field-kinds}
-use Rattle.token_scope.specs.Methods.{endOf, methodAt, methodsTo, methodsBy, methodsOf, afterMethods}
+use Rattle.token_scope.specs.Methods.{methodsTo, methodsBy, methodsOf, afterMethods}
+use Rattle.token_scope.specs.Fields.{methodAt}
+use Rattle.cbor_keys.specs.ReadMap.{contentEnd}
 use Rattle.token_scope.specs.Reading.{anotherThen, maxBytesThen, limitThen, methodsNext, methodsThen}
 use Rattle.token_scope.specs.Reading.{prefixNext, prefixThen, firstThen, entriesThen, scopeOf, afterScope}
 use Rattle.token_scope.specs.declared.MethodsParts.{MethodsParts}
@@ -42,8 +44,7 @@ abbrev pub ScopeKind : ScopeParts → Type 0
 ScopeKind (Of scope next) = Unit {0}
 ScopeKind (Bad kind at) = Kind kind
 
-end-kinds : (r : Content) → ContentKind r → ItemKind (endOf r)
-unfolding endOf
+end-kinds : (r : Content) → ContentKind r → ItemKind (contentEnd r)
 end-kinds (NoContent kind at) h = h
 end-kinds (Found part) h = tt
 

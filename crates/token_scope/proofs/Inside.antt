@@ -15,7 +15,9 @@ use Rattle.cbor_values.specs.Reading.{itemsOf}
 use Rattle.cbor_values.specs.declared.Item.{Item}
 use Rattle.cbor_values.specs.declared.Item.the-variants.{End, Bad as NoItem}
 use Rattle.cbor_values.proofs.Inside.{ItemIn, items-in}
-use Rattle.token_scope.specs.Methods.{endOf, methodAt, methodsTo, methodsBy, methodsOf, afterMethods}
+use Rattle.token_scope.specs.Methods.{methodsTo, methodsBy, methodsOf, afterMethods}
+use Rattle.token_scope.specs.Fields.{methodAt}
+use Rattle.cbor_keys.specs.ReadMap.{contentEnd}
 use Rattle.token_scope.specs.declared.MethodsParts.{MethodsParts}
 use Rattle.token_scope.specs.declared.MethodsParts.the-variants.{Of, Bad}
 
@@ -23,8 +25,7 @@ abbrev pub MethodsIn : ℕ → MethodsParts → Type 0
 MethodsIn size (Of list) = (list .span .from ≤ size) × (list .span .to ≤ size)
 MethodsIn size (Bad kind at) = at ≤ size
 
-end-in : (size : ℕ) (r : Content) → ContentIn size r → ItemIn size (endOf r)
-unfolding endOf
+end-in : (size : ℕ) (r : Content) → ContentIn size r → ItemIn size (contentEnd r)
 end-in size (NoContent kind at) h = h
 end-in size (Found part) h = h .1
 

@@ -27,10 +27,11 @@ use Rattle.token_scope.specs.declared.MethodsParts.the-variants.{Of, Bad
 use Rattle.cbor_keys.specs.Maps.{text, texts, GoodText}
 use Rattle.token_scope.specs.Scopes.{encodeMethods, AllMethods, GoodMethods}
 use Rattle.cbor_keys.proofs.TextLaws.{text-written, IsText, text-read, text-one}
-use Rattle.token_scope.specs.Methods.{endOf, methodAt, methodsTo, methodsBy, methodsOf, afterMethods}
+use Rattle.token_scope.specs.Methods.{methodsTo, methodsBy, methodsOf, afterMethods}
+use Rattle.token_scope.specs.Fields.{methodAt}
+use Rattle.cbor_keys.specs.ReadMap.{contentEnd}
 
 method-there : (s m rest : List ℕ) (at : ℕ) → GoodText Upper 1 16 m → drop at s ≡ text m ++ rest → methodAt s at ≡ End (at + length (text m))
-unfolding endOf
 method-there s m rest at g e =
     rw (text-written Upper 1 16 m g (omega arith) s rest at e)
 
@@ -62,10 +63,9 @@ methods-lie ms s rest at e =
     past s h (texts ms ++ drop (at + length (encodeMethods ms)) s) at (e ∙ rw (past s (encodeMethods ms) rest at e, append-assoc))
 
 method-read : (s : List ℕ) → IsBytes s → (at to : ℕ) → methodAt s at ≡ End to → (part : Span) × IsText Upper 1 16 s at part × (part .to ≡ to)
-unfolding endOf
 method-read s b at to = by (readString s at Upper 1 16) refl
   where
-    by : (r : Content) → readString s at Upper 1 16 ≡ r → endOf r ≡ End to → (part : Span) × IsText Upper 1 16 s at part × (part .to ≡ to)
+    by : (r : Content) → readString s at Upper 1 16 ≡ r → contentEnd r ≡ End to → (part : Span) × IsText Upper 1 16 s at part × (part .to ≡ to)
     by (NoContent kind a) p e = let z : _≡_ {A = ℕ} 0 1 = cc in let z : ⊥ = omega arith in elim z [ ]
     by (Found part) p e = let x : part .to ≡ to = cc in (part, text-read Upper 1 16 s b at p, x)
 

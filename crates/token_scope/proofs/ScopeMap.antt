@@ -1,5 +1,5 @@
 -- A scope is read as the one reading of maps has it, with its keys.
-use mathlib.Core.Path.{_≡_, refl, sym, _∙_}
+use mathlib.Core.Path.{_≡_, refl, sym, ap, _∙_}
 use mathlib.Core.Bool.{Bool, true, false}
 use mathlib.Core.List.{List, [], _∷_}
 use Prim.Native.Nat.{ℕ, zero, suc, _-_, _≤_}
@@ -10,37 +10,51 @@ use Rattle.basis.specs.Basis.{pick}
 use Rattle.basis.specs.declared.Span.{Span}
 use Rattle.basis.specs.declared.Part.{Part}
 use Rattle.basis.specs.declared.Part.the-variants.{Absent, At}
-use Rattle.cbor_heads.specs.Counts.{readCount}
+use Rattle.cbor_heads.specs.Counts.{readCount, arrayUpTo, numberUpTo}
 use Rattle.cbor_heads.specs.declared.Count.{Count}
 use Rattle.cbor_heads.specs.declared.Count.the-variants.{Of as Counted, Bad as NoCount}
 use Rattle.cbor_heads.proofs.CountLaws.{counted}
 use Rattle.cbor_strings.specs.Reading.{readString}
 use Rattle.cbor_strings.specs.declared.Class.the-variants.{Path}
+use Rattle.cbor_values.specs.Reading.{itemsOf}
 use Rattle.cbor_values.specs.declared.Item.{Item}
 use Rattle.cbor_values.specs.declared.Item.the-variants.{End, Bad as NoItem}
 use Rattle.cbor_values.specs.declared.ListAt.{ListAt}
 use Rattle.cbor_keys.specs.Reading.{keyAt, wantedKey}
-use Rattle.cbor_keys.specs.Fields.{numberAt}
 use Rattle.cbor_keys.specs.Steps.{afterItem, afterCount, afterKey}
 use Rattle.cbor_keys.specs.ReadMap.{Field, required, optional, contentEnd, countEnd, requiredOf, fieldAt, entryThen, entriesOf, readMap}
 use Rattle.cbor_keys.specs.declared.Names.the-variants.{Scope}
 use Rattle.cbor_keys.specs.declared.Key.{Key}
 use Rattle.cbor_keys.specs.declared.Key.the-variants.{Of as Known, Bad as NoKey}
 use Rattle.cbor_keys.proofs.MapLaws.{required-next, last-next, none-next, item-end, content-end, count-field}
-use Rattle.token_scope.specs.Methods.{methodsOf, afterMethods}
-use Rattle.token_scope.specs.Reading.{anotherThen, maxBytesThen, limitThen, methodsNext, methodsThen, prefixNext, prefixThen, firstThen, entriesThen, scopeOf}
-use Rattle.token_scope.specs.Fields.{methodsEnd, scopeEnd, scopeFields}
+use Rattle.token_scope.specs.Methods.{methodsTo, methodsBy, methodsOf, afterMethods, methodsEnd}
+use Rattle.token_scope.specs.Reading.{anotherThen, maxBytesThen, limitThen, methodsNext, methodsThen, prefixNext, prefixThen, firstThen, entriesThen, scopeOf, scopeEnd}
+use Rattle.token_scope.specs.Fields.{methodAt, readMethods, scopeFields, readScope}
 use Rattle.token_scope.specs.declared.MethodsParts.{MethodsParts}
 use Rattle.token_scope.specs.declared.MethodsParts.the-variants.{Of as MethodsFound, Bad as NoMethods}
+use Rattle.token_scope.specs.declared.ScopeParts.{ScopeParts}
 use Rattle.token_scope.specs.declared.ScopeParts.the-variants.{Of, Bad}
+
+-- a method list ends where the one reading of it does
+pub methods-list : (s : List ℕ) (at : ℕ) → methodsEnd (methodsOf s at) ≡ readMethods s at
+unfolding methodsBy methodsTo
+methods-list s at = by (arrayUpTo 16 s at)
+  where
+    by-items : (count from : ℕ) (x : Item) → methodsEnd (methodsTo count from x) ≡ x
+    by-items count from (NoItem kind a) = refl
+    by-items count from (End to) = refl
+
+    by : (x : Count) → methodsEnd (methodsBy s x) ≡ afterCount NoItem (itemsOf (methodAt s)) x
+    by (NoCount kind a) = refl
+    by (Counted count from) = by-items count from (itemsOf (methodAt s) count from)
 
 module _ (s : List ℕ) (map : ℕ) where
   -- the keys from each of them on
   abbrev limitFields : List Field
-  limitFields = optional (λ at. countEnd (numberAt s 0xffffffffffffffff at)) ∷ []
+  limitFields = optional (λ at. countEnd (numberUpTo 0xffffffffffffffff s at)) ∷ []
 
   abbrev methodsFields : List Field
-  methodsFields = required (λ at. methodsEnd (methodsOf s at)) ∷ limitFields
+  methodsFields = required (readMethods s) ∷ limitFields
 
   -- behind max_bytes
   end-read : (before : List ℕ) (prefix : Part) (methods : ListAt) (k n next : ℕ)
@@ -62,13 +76,13 @@ module _ (s : List ℕ) (map : ℕ) where
       let to = methods .span .to in
       rw (ne-eqb (suc k) 0 (λ e. omega (arith, e)))
       (count-field scopeEnd Bad (λ kind a. refl) (λ p. entriesOf Scope s map k 3 [] (p ∷ before)) (λ p n next. end-read (p ∷ before) prefix methods k n next)
-      (numberAt s 0xffffffffffffffff) (wantedKey Scope s to 2)
-      ∙ sym (last-next Scope s map k 2 (λ before at. countEnd (numberAt s 0xffffffffffffffff at)) before to))
+      (numberUpTo 0xffffffffffffffff s) (wantedKey Scope s to 2)
+      ∙ sym (last-next Scope s map k 2 (λ before at. countEnd (numberUpTo 0xffffffffffffffff s at)) before to))
 
   methods-read : (before : List ℕ) (prefix : Part) (left at : ℕ)
-      → scopeEnd (methodsThen s prefix left at) ≡ afterItem NoItem (entriesOf Scope s map left 2 limitFields before) (methodsEnd (methodsOf s at))
+      → scopeEnd (methodsThen s prefix left at) ≡ afterItem NoItem (entriesOf Scope s map left 2 limitFields before) (readMethods s at)
   unfolding methodsThen
-  methods-read before prefix left at = by (methodsOf s at)
+  methods-read before prefix left at = rw (← (methods-list s at)) (by (methodsOf s at))
     where
       by : (m : MethodsParts) → scopeEnd (afterMethods Bad (methodsNext s prefix left) m) ≡ afterItem NoItem (entriesOf Scope s map left 2 limitFields before) (methodsEnd m)
       by (NoMethods kind a) = refl
@@ -81,9 +95,9 @@ module _ (s : List ℕ) (map : ℕ) where
   prefix-read before (suc k) prefix =
       let z : suc (suc k) - 2 ≡ k = omega arith in
       rw (le-ltb (suc (suc k)) 2 (omega arith), z)
-      (item-end scopeEnd Bad (λ kind a. refl) (λ p. afterItem NoItem (entriesOf Scope s map k 2 limitFields (p ∷ before)) (methodsEnd (methodsOf s p)))
+      (item-end scopeEnd Bad (λ kind a. refl) (λ p. afterItem NoItem (entriesOf Scope s map k 2 limitFields (p ∷ before)) (readMethods s p))
       (λ p. methods-read (p ∷ before) (At prefix) k p) (wantedKey Scope s (prefix .to) 1)
-      ∙ sym (required-next Scope s map k 1 (λ before at. methodsEnd (methodsOf s at)) limitFields before (prefix .to)))
+      ∙ sym (required-next Scope s map k 1 (λ before. readMethods s) limitFields before (prefix .to)))
 
   -- the first key
   first-read : (k at index next : ℕ) → scopeEnd (firstThen s map (suc k) at index next) ≡ entryThen (entriesOf Scope s map k) 0 (scopeFields s) [] at index next
@@ -95,7 +109,7 @@ module _ (s : List ℕ) (map : ℕ) where
       let z : suc (suc index) - 0 ≡ suc (suc index) = omega arith in
       rw (ne-eqb (suc (suc index)) 0 (λ e. omega (arith, e)), ne-eqb (suc (suc index)) 1 (λ e. omega (arith, e)), le-ltb (suc (suc index)) 0 (omega arith), z)
 
-  pub scope-map : scopeEnd (scopeOf s map) ≡ readMap Scope (scopeFields s) s map
+  pub scope-map : scopeEnd (scopeOf s map) ≡ readScope s map
   unfolding scopeOf entriesThen entriesOf requiredOf
   scope-map = by (readCount s map 5 1 3 6) refl
     where
@@ -110,3 +124,14 @@ module _ (s : List ℕ) (map : ℕ) where
       by : (x : Count) → readCount s map 5 1 3 6 ≡ x → scopeEnd (afterCount Bad (entriesThen s map) x) ≡ afterCount NoItem (λ n. entriesOf Scope s map n 0 (scopeFields s) []) x
       by (NoCount kind a) e = refl
       by (Counted n at) e = by-count n at (counted s map 5 1 3 6 e .enough)
+
+-- so a scope's defect is that of the one reading, number and place, and the other way round
+pub scope-defect : (s : List ℕ) (map : ℕ) {n at : ℕ} → scopeOf s map ≡ Bad n at → readScope s map ≡ NoItem n at
+scope-defect s map e = sym (scope-map s map) ∙ ap scopeEnd e
+
+pub defect-scope : (s : List ℕ) (map : ℕ) {n at : ℕ} → readScope s map ≡ NoItem n at → scopeOf s map ≡ Bad n at
+defect-scope s map {n} {at} h = by (scopeOf s map) (scope-map s map ∙ h)
+  where
+    by : (x : ScopeParts) → scopeEnd x ≡ NoItem n at → x ≡ Bad n at
+    by (Bad kind a) e = let p : kind ≡ n = cc in let q : a ≡ at = cc in rw (p, q)
+    by (Of scope next) e = let z : _≡_ {A = ℕ} 0 1 = cc in let z : ⊥ = omega arith in elim z [ ]

@@ -1,29 +1,32 @@
--- Reading. What the one reading of maps (ReadMap of `cbor_keys`) takes of a scope. Document 01, "Token bytes": "scope r: prefix (may be
+-- Reading. A scope is the one reading of maps (ReadMap of `cbor_keys`) with these keys. Document 01, "Token bytes": "scope r: prefix (may be
 -- absent), methods, max_bytes (may be absent)."
 use mathlib.Core.List.{List, [], _∷_}
 use Prim.Native.Nat.{ℕ}
-use Rattle.basis.specs.Limits.{pathMost, numberMost}
+use Rattle.basis.specs.Limits.{pathMost, methodMost, methodsMost, numberMost}
+use Rattle.cbor_heads.specs.Counts.{arrayUpTo, numberUpTo}
 use Rattle.cbor_strings.specs.Reading.{readString}
-use Rattle.cbor_strings.specs.declared.Class.the-variants.{Path}
+use Rattle.cbor_strings.specs.declared.Class.the-variants.{Path, Upper}
+use Rattle.cbor_values.specs.Reading.{itemsOf}
 use Rattle.cbor_values.specs.declared.Item.{Item}
-use Rattle.cbor_values.specs.declared.Item.the-variants.{End, Bad as NoItem}
-use Rattle.cbor_keys.specs.Fields.{numberAt}
-use Rattle.cbor_keys.specs.ReadMap.{Field, required, optional, contentEnd, countEnd}
-use Rattle.token_scope.specs.Methods.{methodsOf, afterMethods}
-use Rattle.token_scope.specs.Reading.{afterScope}
-use Rattle.token_scope.specs.declared.MethodsParts.{MethodsParts}
-use Rattle.token_scope.specs.declared.ScopeParts.{ScopeParts}
+use Rattle.cbor_values.specs.declared.Item.the-variants.{Bad}
+use Rattle.cbor_keys.specs.Steps.{afterCount}
+use Rattle.cbor_keys.specs.ReadMap.{Field, required, optional, contentEnd, countEnd, readMap}
+use Rattle.cbor_keys.specs.declared.Names.the-variants.{Scope}
 
--- where it ends, or its defect
-abbrev pub methodsEnd : MethodsParts → Item
-methodsEnd = afterMethods NoItem (λ methods. End (methods .span .to))
+-- 01: "Method lists: 0 to 16 of 1 to 16 letters A-Z"; "Array count over its limit ..: parse.bounds". The array's head and its count; then each
+-- method, a string
+abbrev pub methodAt : List ℕ → ℕ → Item
+methodAt s at = contentEnd (readString s at Upper 1 methodMost)
 
-abbrev pub scopeEnd : ScopeParts → Item
-scopeEnd = afterScope NoItem (λ scope next. End next)
+abbrev pub readMethods : List ℕ → ℕ → Item
+readMethods s at = afterCount Bad (itemsOf (methodAt s)) (arrayUpTo methodsMost s at)
 
 abbrev pub scopeFields : List ℕ → List Field
 scopeFields s =
     optional (λ at. contentEnd (readString s at Path 1 pathMost))
-    ∷ required (λ at. methodsEnd (methodsOf s at))
-    ∷ optional (λ at. countEnd (numberAt s numberMost at))
+    ∷ required (readMethods s)
+    ∷ optional (λ at. countEnd (numberUpTo numberMost s at))
     ∷ []
+
+abbrev pub readScope : List ℕ → ℕ → Item
+readScope s = readMap Scope (scopeFields s) s

@@ -1,12 +1,11 @@
--- Reading. Need not be believed: it is `readMap` with `scopeFields` (`scope-map`), and the laws fix its parts. The one reading of a scope.
--- Document 01, "Reading order": "A map with more entries than it has known keys: schema.unknown_field; fewer than it requires: parse.cbor.
--- Its key not known: schema.unknown_field; known but repeated, out of order, or with a required key passed over or absent at the end:
--- parse.cbor." Of the keys prefix (0), methods (1) and max_bytes (2) only methods is required.
+-- Reading. Need not be believed: it ends where `readScope` does (`scope-map`), and the laws fix its parts. A scope as it lies, entry by
+-- entry, as the code reads it. From the top: the map's head, of one to three entries; the first key, which is prefix or methods; behind a
+-- prefix, methods; behind the methods, max_bytes, if an entry is left; behind max_bytes nothing may be left.
 use mathlib.Core.List.{List}
 use Prim.Native.Nat.{ℕ, _-_}
 use lib.Dec.{eqb, ltb}
 use Rattle.basis.specs.Basis.{pick}
-use Rattle.cbor_heads.specs.Counts.{readCount, mapWith}
+use Rattle.cbor_heads.specs.Counts.{mapWith}
 use Rattle.cbor_strings.specs.Reading.{readString}
 use Rattle.cbor_strings.specs.declared.Class.the-variants.{Path}
 use Rattle.cbor_keys.specs.Reading.{keyAt, wantedKey}
@@ -21,6 +20,8 @@ use Rattle.basis.specs.Limits.{pathMost, numberMost}
 use Rattle.cbor_keys.specs.Indexes.{scopePrefix, scopeMethods, scopeMaxBytes}
 use Rattle.cbor_heads.specs.Majors.{parseCbor}
 use Rattle.cbor_values.specs.declared.ListAt.{ListAt}
+use Rattle.cbor_values.specs.declared.Item.{Item}
+use Rattle.cbor_values.specs.declared.Item.the-variants.{End, Bad as NoItem}
 use Rattle.token_scope.specs.declared.Limit.{Limit}
 use Rattle.token_scope.specs.declared.Limit.the-variants.{Absent as NoLimit, Of as AtMost}
 use Rattle.token_scope.specs.declared.ScopeAt.{ScopeAt}
@@ -74,3 +75,7 @@ scopeOf s at = afterCount Bad (entriesThen s at) (mapWith 1 3 s at)
 abbrev pub afterScope : {A : Type 0} → (ℕ → ℕ → A) → (ScopeAt → ℕ → A) → ScopeParts → A
 afterScope bad rest (Bad kind at) = bad kind at
 afterScope bad rest (Of scope next) = rest scope next
+
+-- where it ends, or its defect
+abbrev pub scopeEnd : ScopeParts → Item
+scopeEnd = afterScope NoItem (λ scope next. End next)

@@ -5,6 +5,7 @@ use mathlib.Core.Option.{Option}
 use Prim.Native.Nat.{ℕ, _+_, _<_, _≤_, _^_}
 use lib.ListN.{length}
 use Rattle.basis.specs.Limits.{methodMost, methodsMost, pathMost}
+use Rattle.cbor_heads.specs.Majors.{unsigned, array, map}
 use Rattle.cbor_heads.specs.Heads.{head}
 use Rattle.cbor_strings.specs.declared.Class.the-variants.{Path, Upper}
 use Rattle.cbor_keys.specs.Maps.{text, texts, entry, entryIf, present, IfPresent, GoodText}
@@ -16,14 +17,14 @@ pub record Scope : Type 0 where
   pub max-bytes : Option ℕ
 
 unfoldable pub encodeMethods : List (List ℕ) → List ℕ
-encodeMethods ms = head 4 (length ms) ++ texts ms
+encodeMethods ms = head array (length ms) ++ texts ms
 
 unfoldable pub encodeScope : Scope → List ℕ
 encodeScope s =
-    head 5 (present (s .prefix) + 1 + present (s .max-bytes))
+    head map (present (s .prefix) + 1 + present (s .max-bytes))
     ++ (entryIf "prefix" text (s .prefix)
     ++ (entry "methods" (encodeMethods (s .methods))
-    ++ entryIf "max_bytes" (head 0) (s .max-bytes)))
+    ++ entryIf "max_bytes" (head unsigned) (s .max-bytes)))
 
 -- 01: "1 to 16 letters A-Z"
 unfoldable pub AllMethods : List (List ℕ) → Type 0

@@ -17,7 +17,8 @@ use cbor_values::Item;
 use cbor_values::ListAt;
 ghost use mathlib.Core.Path.{_≡_};
 ghost use Rattle.cbor_values.specs.Reading.{itemsOf};
-ghost use Rattle.token_scope.specs.Methods.{methodAt, methodsOf};
+ghost use Rattle.token_scope.specs.Methods.{methodsOf};
+ghost use Rattle.token_scope.specs.Fields.{methodAt};
 ghost use Rattle.token_scope.specs.Reading.{prefixThen, methodsThen, limitThen, scopeOf};
 
 // Where a method list lies, or what is wrong with it.
@@ -75,8 +76,7 @@ fn methods_end(s: &[u8], from: usize, count: u64) -> Item
 pub fn read_methods(s: &[u8], at: usize) -> MethodsParts
     ensures { λ r. ⌜ r ≡ methodsOf (now (s .entry)) at ⌝ }
 {
-    let count = cbor_heads::read_count(s, at, major::ARRAY, 0, limits::METHODS_MOST, BOUNDS);
-    match count {
+    match cbor_heads::array_up_to(s, at, limits::METHODS_MOST) {
         Count::Bad { kind, at: a } => MethodsParts::Bad { kind, at: a },
         Count::Of { n, next: from } => match methods_end(s, from, n) {
             Item::Bad { kind, at: a } => MethodsParts::Bad { kind, at: a },
@@ -167,15 +167,15 @@ fn prefix_then(s: &[u8], at: usize, n: u64, next: usize) -> ScopeParts
 pub fn read_scope(s: &[u8], at: usize) -> ScopeParts
     ensures { λ r. ⌜ r ≡ scopeOf (now (s .entry)) at ⌝ }
 {
-    match cbor_heads::read_count(s, at, major::MAP, 1, 3, UNKNOWN) {
+    match cbor_heads::map_with(s, at, 1, 3) {
         Count::Bad { kind, at: a } => ScopeParts::Bad { kind, at: a },
         Count::Of { n, next: p } => match cbor_keys::key_at(s, p, Names::Scope) {
             Key::Bad { kind, at: a } => ScopeParts::Bad { kind, at: a },
             Key::Of { index, next } => {
-                if index == 0 {
+                if index == index::SCOPE_PREFIX {
                     return prefix_then(s, at, n, next);
                 }
-                if index == 1 {
+                if index == index::SCOPE_METHODS {
                     return methods_then(s, next, Part::Absent, n - 1);
                 }
                 ScopeParts::Bad { kind: CBOR, at: p }

@@ -4,7 +4,7 @@ use Rattle.cbor_keys.proofs.number_field.Statement.{statement}
 use Rattle.cbor_keys.proofs.number_field.Tie as tie
 use Rattle.cbor_keys.proofs.number_field.Reads as reads
 use Rattle.cbor_keys.proofs.number_field.Lts as lts
-use Rattle.cbor_heads.proofs.read_count.Reads as read-count-reads
+use Rattle.cbor_heads.proofs.number_up_to.Reads as number-up-to-reads
 use Rattle.cbor_keys.proofs.wanted_key.Reads as wanted-key-reads
 
 wanted-key-requires : tie.Need-wanted-key-requires
@@ -16,14 +16,14 @@ enum-known-kind c = search needs
 enum-known-next : tie.Need-enum-known-next
 enum-known-next c = search needs
 
-read-count-requires : tie.Need-read-count-requires
-read-count-requires c κs = search needs
+number-up-to-requires : tie.Need-number-up-to-requires
+number-up-to-requires c κs = search needs
 
 returns : tie.Need-returns
 returns c = rw (sym (c .before .before .before .wanted-key .ensures) ∙ c .before .kind .given .1)
 
 returns-2 : tie.Need-returns-2
-returns-2 c = rw (sym (c .before .before .before .before .wanted-key .ensures) ∙ c .before .before .next .given .1) (c .read-count .ensures)
+returns-2 c = rw (sym (c .before .before .before .before .wanted-key .ensures) ∙ c .before .before .next .given .1) (c .number-up-to .ensures)
 
 pub number-field-spec : {M : Type 1} → statement M
 number-field-spec =
@@ -32,6 +32,6 @@ number-field-spec =
     wanted-key-requires
     enum-known-kind
     enum-known-next
-    read-count-requires
+    number-up-to-requires
     returns
     returns-2)

@@ -7,7 +7,7 @@ use Rattle.token_back.proofs.version_field.Statement.{statement}
 use Rattle.token_back.proofs.version_field.Tie as tie
 use Rattle.token_back.proofs.version_field.Reads as reads
 use Rattle.token_back.proofs.version_field.Lts as lts
-use Rattle.cbor_heads.proofs.read_count.Reads as read-count-reads
+use Rattle.cbor_heads.proofs.number_up_to.Reads as number-up-to-reads
 use Rattle.cbor_keys.proofs.wanted_key.Reads as wanted-key-reads
 
 wanted-key-requires : tie.Need-wanted-key-requires
@@ -19,8 +19,8 @@ enum-known-kind c = search needs
 enum-known-p : tie.Need-enum-known-p
 enum-known-p c = search needs
 
-read-count-requires : tie.Need-read-count-requires
-read-count-requires c κs = search needs
+number-up-to-requires : tie.Need-number-up-to-requires
+number-up-to-requires c κs = search needs
 
 enum-known-kind-2 : tie.Need-enum-known-kind-2
 enum-known-kind-2 c = search needs
@@ -30,7 +30,7 @@ enum-known-n c = search needs
 
 returns : tie.Need-returns
 unfolding versionThen versionAt versionField
-returns c = rw (sym (c .before .before .before .before .before .before .before .before .wanted-key .ensures) ∙ c .before .before .before .before .before .before .p .given .1, sym (c .before .before .before .before .read-count .ensures) ∙ c .before .before .n .given .1, eq-eqb _ _ (c .if1 .taken))
+returns c = rw (sym (c .before .before .before .before .before .before .before .before .wanted-key .ensures) ∙ c .before .before .before .before .before .before .p .given .1, sym (c .before .before .before .before .number-up-to .ensures) ∙ c .before .before .n .given .1, eq-eqb _ _ (c .if1 .taken))
 
 returns-2 : tie.Need-returns-2
 unfolding versionThen versionAt versionField
@@ -38,11 +38,11 @@ returns-2 c = rw (sym (c .before .before .before .wanted-key .ensures) ∙ c .be
 
 returns-3 : tie.Need-returns-3
 unfolding versionThen versionAt versionField
-returns-3 c = rw (sym (c .before .before .before .before .before .before .before .wanted-key .ensures) ∙ c .before .before .before .before .before .p .given .1, sym (c .before .before .before .read-count .ensures) ∙ c .before .kind2 .given .1)
+returns-3 c = rw (sym (c .before .before .before .before .before .before .before .wanted-key .ensures) ∙ c .before .before .before .before .before .p .given .1, sym (c .before .before .before .number-up-to .ensures) ∙ c .before .kind2 .given .1)
 
 returns-4 : tie.Need-returns-4
 unfolding versionThen versionAt versionField
-returns-4 c = rw (sym (c .before .before .before .before .before .before .before .before .wanted-key .ensures) ∙ c .before .before .before .before .before .before .p .given .1, sym (c .before .before .before .before .read-count .ensures) ∙ c .before .before .n .given .1, ne-eqb _ _ (c .if1 .left))
+returns-4 c = rw (sym (c .before .before .before .before .before .before .before .before .wanted-key .ensures) ∙ c .before .before .before .before .before .before .p .given .1, sym (c .before .before .before .before .number-up-to .ensures) ∙ c .before .before .n .given .1, ne-eqb _ _ (c .if1 .left))
 
 pub version-field-spec : {M : Type 1} → statement M
 version-field-spec =
@@ -51,7 +51,7 @@ version-field-spec =
     wanted-key-requires
     enum-known-kind
     enum-known-p
-    read-count-requires
+    number-up-to-requires
     enum-known-kind-2
     enum-known-n
     returns

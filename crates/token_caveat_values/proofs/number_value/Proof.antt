@@ -5,10 +5,10 @@ use Rattle.token_caveat_values.proofs.number_value.Statement.{statement
 use Rattle.token_caveat_values.proofs.number_value.Tie as tie
 use Rattle.token_caveat_values.proofs.number_value.Reads as reads
 use Rattle.token_caveat_values.proofs.number_value.Lts as lts
-use Rattle.cbor_heads.proofs.read_count.Reads as read-count-reads
+use Rattle.cbor_heads.proofs.number_up_to.Reads as number-up-to-reads
 
-read-count-requires : tie.Need-read-count-requires
-read-count-requires c κs = search needs
+number-up-to-requires : tie.Need-number-up-to-requires
+number-up-to-requires c κs = search needs
 
 enum-known-kind : tie.Need-enum-known-kind
 enum-known-kind c = search needs
@@ -21,17 +21,17 @@ of-number-requires c κs = search needs
 
 returns : tie.Need-returns
 unfolding numberValue
-returns c = rw (sym (c .before .before .before .read-count .ensures) ∙ c .before .kind .given .1)
+returns c = rw (sym (c .before .before .before .number-up-to .ensures) ∙ c .before .kind .given .1)
 
 returns-2 : tie.Need-returns-2
 unfolding numberValue
-returns-2 c = rw (sym (c .before .before .before .before .read-count .ensures) ∙ c .before .before .n .given .1, sym (c .of-number .ensures))
+returns-2 c = rw (sym (c .before .before .before .before .number-up-to .ensures) ∙ c .before .before .n .given .1, sym (c .of-number .ensures))
 
 pub number-value-spec : {M : Type 1} → statement M
 number-value-spec =
     tie.close
     (tie.spec
-    read-count-requires
+    number-up-to-requires
     enum-known-kind
     enum-known-n
     of-number-requires

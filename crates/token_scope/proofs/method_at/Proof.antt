@@ -1,5 +1,4 @@
 use mathlib.Core.Path.{sym, _∙_}
-use Rattle.token_scope.specs.Methods.{endOf}
 use borrow.Author.Needs.{needs}
 use Rattle.token_scope.proofs.method_at.Statement.{statement}
 use Rattle.token_scope.proofs.method_at.Tie as tie
@@ -17,11 +16,9 @@ enum-known-kind : tie.Need-enum-known-kind
 enum-known-kind c = search needs
 
 returns : tie.Need-returns
-unfolding endOf
 returns c = rw (sym (c .before .before .before .read-string .ensures) ∙ c .before .span .given .1)
 
 returns-2 : tie.Need-returns-2
-unfolding endOf
 returns-2 c = rw (sym (c .before .before .before .read-string .ensures) ∙ c .before .kind .given .1)
 
 pub method-at-spec : {M : Type 1} → statement M

@@ -3,7 +3,7 @@ use native.Mathlib.Omega.{arith}
 use borrow.Author.Needs.{needs}
 use Rattle.cbor_values.specs.Reading.{itemsOf}
 use Rattle.cbor_values.proofs.ItemReads.{one-bad, one-more}
-use Rattle.token_scope.specs.Methods.{methodAt}
+use Rattle.token_scope.specs.Fields.{methodAt}
 use Rattle.token_scope.proofs.methods_end.Statement.{statement}
 use Rattle.token_scope.proofs.methods_end.Tie as tie
 use Rattle.token_scope.proofs.methods_end.Reads as reads
