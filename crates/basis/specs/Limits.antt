@@ -1,5 +1,5 @@
 -- Meaning. Every limit and kind of document 01, each beside the words that fix it ("Token bytes", then "Chain", then "House records").
-use Prim.Native.Nat.{ℕ}
+use Prim.Native.Nat.{ℕ, _<_, _^_}
 
 -- "tid, kid, tenant, ns, name: 1 to 64"
 abbrev pub nameMost : ℕ
@@ -33,9 +33,15 @@ cidrMost = 32
 abbrev pub numberMost : ℕ
 numberMost = 0xffffffffffffffff
 
+abbrev pub Number64 : ℕ → Type 0
+Number64 n = n < 2 ^ 64
+
 -- "burst, per_s, each below 2^32"
 abbrev pub rateMost : ℕ
 rateMost = 0xffffffff
+
+abbrev pub Number32 : ℕ → Type 0
+Number32 n = n < 2 ^ 32
 
 -- "arrays inside arrays, four deep at most"
 abbrev pub depthMost : ℕ

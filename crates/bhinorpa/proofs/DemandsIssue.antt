@@ -1,7 +1,7 @@
 -- Demands 1 and 2 of issue: the first failing check, the closed list, what is written. The statements are those of specs/Demands.antt.
 use mathlib.Core.Path.{_≡_, refl, ap, subst, _∙_}
 use mathlib.Core.Bool.{Bool, true, false}
-use mathlib.Core.List.{List, []}
+use mathlib.Core.List.{List}
 use Prim.Native.Nat.{ℕ}
 use native.Mathlib.Omega.{arith}
 use lib.ListN.{length}

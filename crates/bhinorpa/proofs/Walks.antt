@@ -8,7 +8,7 @@ use lib.ListN.{length, drop}
 use lib.Seq.{take-at}
 use Rattle.basis.specs.Basis.{fromTo, between}
 use Rattle.basis.proofs.Parts.{past}
-use Rattle.hash_chain.specs.Chain.{nextLink, chainOf}
+use Rattle.hash_chain.specs.Chain.{chainOf}
 use Rattle.token_caveat.specs.Caveats.{Caveat, encodeCaveat, GoodCaveat}
 use Rattle.token_caveat_values.specs.declared.CaveatAt.{CaveatAt}
 use Rattle.token_caveat.proofs.CaveatLaws.{partOf, caveat-written}

@@ -9,12 +9,11 @@ use mathlib.Core.Option.{some, none}
 use Prim.Native.Nat.{ℕ, _≤_}
 use lib.Dec.{eqb, leb, ltb}
 use lib.ListN.{length, take}
-use Rattle.basis.specs.Limits.{nameMost, caveatsMost, tokenMost, textMost}
+use Rattle.basis.specs.Limits.{caveatsMost, tokenMost, textMost}
 use Rattle.basis.specs.Basis.{pick, IsBytes}
 use Rattle.answers.specs.Answers.{numberOf}
 use Rattle.answers.specs.declared.Answer.the-variants.{Allow, CavFull, SizeFull, OutShort}
-use Rattle.cbor_strings.specs.declared.Class.the-variants.{Name}
-use Rattle.cbor_keys.specs.Maps.{GoodText}
+use Rattle.cbor_keys.specs.Maps.{GoodName}
 use Rattle.token_cidr.specs.Prefixes.{Prefix, GoodPrefix}
 use Rattle.token_cidr.specs.Bits.{Agree}
 use Rattle.token_scope.specs.Scopes.{Scope, encodeScope}
@@ -88,7 +87,7 @@ IssueVerdictOne =
 
 -- "7 (also for a tid or kid of wrong form)": only ids of the right form have a row in a good table
 abbrev pub IdsOfRows : Type 0
-IdsOfRows = (rows : List Row) → GoodTable rows → (tid kid : List ℕ) → hasRow rows tid kid ≡ true → GoodText Name 1 nameMost tid × GoodText Name 1 nameMost kid
+IdsOfRows = (rows : List Row) → GoodTable rows → (tid kid : List ℕ) → hasRow rows tid kid ≡ true → GoodName tid × GoodName kid
 
 -- a good table, scope and row are refused only for the room
 abbrev pub IssueRefusals : Type 0

@@ -4,7 +4,6 @@ use answers::Listed;
 use basis::Span;
 use basis::limits;
 use records::RecordParts;
-ghost use mathlib.Core.Path.{_≡_};
 ghost use mathlib.Core.List.{[]};
 ghost use Prim.Native.Nat.{_+_, _≤_};
 ghost use lib.ListN.{length};

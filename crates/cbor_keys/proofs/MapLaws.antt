@@ -2,9 +2,9 @@
 use mathlib.Core.Path.{_≡_, refl, ap, _∙_}
 use mathlib.Core.Bool.{Bool, true, false}
 use mathlib.Core.List.{List, [], _∷_}
-use Prim.Native.Nat.{ℕ, suc, _-_, _<_, _≤_}
+use Prim.Native.Nat.{ℕ, suc, _-_}
 use native.Mathlib.Omega.{arith}
-use borrow.Author.Tests.{eq-eqb, ne-eqb, lt-ltb, le-ltb, eqb-true, eqb-false, ltb-true, ltb-false}
+use borrow.Author.Tests.{le-ltb, eqb-true, eqb-false, ltb-false}
 use lib.Dec.{eqb, ltb}
 use Rattle.basis.specs.Basis.{pick}
 use Rattle.basis.specs.declared.Span.{Span}

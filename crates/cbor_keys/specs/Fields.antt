@@ -2,7 +2,7 @@
 use mathlib.Core.List.{List}
 use Prim.Native.Nat.{ℕ}
 use Rattle.basis.specs.Limits.{nameMost}
-use Rattle.cbor_heads.specs.Counts.{readCount, numberUpTo}
+use Rattle.cbor_heads.specs.Counts.{numberUpTo}
 use Rattle.cbor_strings.specs.Reading.{readString}
 use Rattle.cbor_strings.specs.declared.Class.the-variants.{Name}
 use Rattle.cbor_heads.specs.declared.Count.{Count}

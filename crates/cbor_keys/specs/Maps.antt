@@ -7,11 +7,13 @@ use Prim.Native.Nat.{ℕ, _≤_}
 use Prim.Native.String.{String}
 use lib.ListN.{length}
 use Rattle.basis.specs.Basis.{ascii}
+use Rattle.basis.specs.Limits.{nameMost}
 use Rattle.cbor_heads.specs.Majors.{textString}
 use Rattle.cbor_strings.specs.Strings.{string, contentOf}
 use Rattle.cbor_strings.specs.declared.Class.{Class}
+use Rattle.cbor_strings.specs.declared.Class.the-variants.{Name}
 
--- major types: 2 a byte string, 3 a text, 4 an array, 5 a map, each with its length or count
+-- a text as it is written
 abbrev pub text : List ℕ → List ℕ
 text = string textString
 
@@ -41,3 +43,7 @@ pub record GoodText (class : Class) (low high : ℕ) (s : List ℕ) : Type 0 whe
   pub enough : low ≤ length s
   pub most : length s ≤ high
   pub content : contentOf class s ≡ true
+
+-- 01: "tid, kid, tenant, ns, name: 1 to 64 of letters, digits, "-", ".", "_""
+abbrev pub GoodName : List ℕ → Type 0
+GoodName = GoodText Name 1 nameMost

@@ -11,7 +11,7 @@ use lib.Dec.{eqb, ltb}
 use lib.ListN.{length}
 use Rattle.basis.specs.Basis.{pick}
 use Rattle.cbor_heads.specs.Majors.{parseCbor}
-use Rattle.cbor_heads.specs.Counts.{readCount, mapWith}
+use Rattle.cbor_heads.specs.Counts.{mapWith}
 use Rattle.cbor_heads.specs.declared.Count.{Count}
 use Rattle.cbor_strings.specs.declared.Content.{Content}
 use Rattle.cbor_values.specs.declared.Item.{Item}

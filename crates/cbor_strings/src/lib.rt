@@ -7,7 +7,6 @@ use cbor_heads::defect::CBOR;
 use cbor_heads::major;
 ghost use mathlib.Core.Path.{_≡_};
 ghost use Prim.Native.Nat.{_<_, min, max};
-ghost use lib.ListN.{length};
 ghost use Rattle.cbor_strings.specs.Strings.{within, allOf, contentOf};
 ghost use Rattle.cbor_strings.specs.Inner.{kindOf, kindsFrom};
 ghost use Rattle.cbor_strings.specs.Reading.{readRun, readString};

@@ -3,8 +3,9 @@
 use mathlib.Core.Path.{_≡_}
 use mathlib.Core.Bool.{true}
 use mathlib.Core.List.{List, [], _++_}
-use Prim.Native.Nat.{ℕ, zero, suc, _<_, _≤_, _^_}
+use Prim.Native.Nat.{ℕ, zero, suc, _≤_}
 use lib.ListN.{length}
+use Rattle.basis.specs.Limits.{Number64}
 use Rattle.cbor_heads.specs.Majors.{unsigned, byteString, textString, negative as negativeMajor, simple as simpleMajor, array as arrayMajor, simpleFalse, simpleNull}
 use Rattle.cbor_heads.specs.Heads.{head}
 use Rattle.cbor_strings.specs.Strings.{string}
@@ -44,13 +45,13 @@ unfoldable mutual
 -- a tree within limits, with at most so many arrays inside each other; numbers, lengths and counts have 64 bits
 unfoldable mutual
   pub Good : Value → ℕ → Type 0
-  Good (number n) d = n < 2 ^ 64
-  Good (negative n) d = n < 2 ^ 64
-  Good (bytes c) d = length c < 2 ^ 64
-  Good (text c) d = (length c < 2 ^ 64) × (utf8 c ≡ true)
+  Good (number n) d = Number64 n
+  Good (negative n) d = Number64 n
+  Good (bytes c) d = Number64 (length c)
+  Good (text c) d = Number64 (length c) × (utf8 c ≡ true)
   Good (simple n) d = (simpleFalse ≤ n) × (n ≤ simpleNull)
   Good (array vs) zero = ⊥
-  Good (array vs) (suc d) = (count vs < 2 ^ 64) × AllGood vs d
+  Good (array vs) (suc d) = Number64 (count vs) × AllGood vs d
 
   pub AllGood : Values → ℕ → Type 0
   AllGood none d = Unit {0}

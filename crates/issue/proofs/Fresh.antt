@@ -5,7 +5,6 @@ use mathlib.Core.List.{List, [], _∷_, _++_, append-nil}
 use Prim.Native.Nat.{ℕ, _≤_}
 use native.Mathlib.Omega.{arith}
 use borrow.Author.Tests.{eq-eqb, ne-eqb}
-use lib.Dec.{eqb}
 use lib.ListN.{length, drop, drop-of-length-le}
 use Rattle.basis.specs.Basis.{pick, IsBytes}
 use Rattle.basis.specs.Same.{sameOf}
@@ -24,10 +23,10 @@ use Rattle.token_scope.proofs.ScopeRead.{scope-read}
 use Rattle.token_scope.proofs.Lengths.{scope-short}
 use Rattle.token.specs.Writing.{freshBytes}
 use Rattle.records_table.specs.Order.{sameIds}
-use Rattle.records_table.specs.Tables.{Row, encodeTable, GoodFrom, GoodTable, hasRow, keyIn}
+use Rattle.records_table.specs.Tables.{Row, GoodFrom, GoodTable, hasRow, keyIn}
 use Rattle.records_table.specs.Reading.{tableOk, findFrom}
 use Rattle.records_table.proofs.TableLaws.{table-read, find-finds, key-of-row}
-use Rattle.outcome.specs.Decisions.{Decision, refused, granted}
+use Rattle.outcome.specs.Decisions.{refused, granted}
 use Rattle.issue.specs.Issuing.{issueWith, issueThen, issueOf}
 use Rattle.issue.specs.Inner.{Issuable}
 use Rattle.issue.proofs.Sizes.{fresh-few}

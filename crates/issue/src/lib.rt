@@ -3,7 +3,6 @@
 use basis::limits;
 use outcome::Outcome;
 use token_scope::ScopeParts;
-ghost use mathlib.Core.Path.{_≡_};
 ghost use Rattle.outcome.specs.Decisions.{Carried};
 ghost use Rattle.issue.specs.Issuing.{issueWith, issueOf};
 ghost use Rattle.issue.specs.Inner.{Issuable};

@@ -1,6 +1,7 @@
 // Judges the bundle on standard input and writes its lines to standard output. One byte more is read than a
 // bundle may have, so that a longer one is seen to be longer. Where a read fails nothing is judged, since what
 // came before may be a part of a bundle: the one line is "bundle.bad".
+use basis::limits;
 use libc::STDERR_FILENO;
 use libc::STDIN_FILENO;
 use libc::STDOUT_FILENO;
@@ -62,20 +63,20 @@ fn write_lines(text: &[u8]) {
 }
 
 // The bundle's lines at the front of the room, and how many bytes they have.
-fn lines_of(input: &[u8], room: &mut [u8; 442368]) -> usize
+fn lines_of(input: &[u8], room: &mut [u8; bundle::ENOUGH]) -> usize
     ensures { λ r. ⌜ Lined (now (input .entry)) r (now (room .exit)) ⌝ }
 {
     bundle::judge_bundle(input, room)
 }
 
 fn judge_input(input: &[u8]) {
-    let mut lines = [0u8; 442368];
+    let mut lines = [0u8; bundle::ENOUGH];
     let n = lines_of(input, &mut lines);
     write_lines(&lines[..n]);
 }
 
 fn main() {
-    let mut input = [0u8; 65537];
+    let mut input = [0u8; limits::BUNDLE_MOST + 1];
     match read_input(STDIN_FILENO, &mut input) {
         Input::Whole(n) => judge_input(&input[..n]),
         Input::Failed => {

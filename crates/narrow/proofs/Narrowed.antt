@@ -16,7 +16,7 @@ use Rattle.token.specs.declared.TokenParts.the-variants.{Of, Bad}
 use Rattle.records_table.specs.Reading.{tableOk, findFrom}
 use Rattle.token.specs.declared.TokenAt.{TokenAt}
 use Rattle.verify_walk.specs.Walking.{linkFirst, linksOf}
-use Rattle.outcome.specs.Decisions.{Decision, refused}
+use Rattle.outcome.specs.Decisions.{refused}
 use Rattle.narrow_child.specs.Child.{caveatAdded}
 use Rattle.narrow.specs.Narrowing.{lastLink, tagNarrowed, keyNarrowed, tokenNarrowed, bytesNarrowed, decodedNarrowed, textNarrowed, narrowOf}
 

@@ -5,7 +5,6 @@ use outcome::Outcome;
 use text_reading::Decoded;
 use token::TokenAt;
 use token::TokenParts;
-ghost use mathlib.Core.Path.{_≡_};
 ghost use Prim.Native.Nat.{_≤_};
 ghost use lib.ListN.{length};
 ghost use Rattle.verify_walk.specs.Ready.{Ready};

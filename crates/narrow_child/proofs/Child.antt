@@ -1,5 +1,5 @@
 -- The child: what the checks behind the caveat decide, and that its writer wrote it.
-use mathlib.Core.Path.{_≡_, refl, sym, ap, _∙_}
+use mathlib.Core.Path.{_≡_, refl, ap, _∙_}
 use mathlib.Core.Bool.{Bool, true, false}
 use mathlib.Core.List.{List, _++_}
 use Prim.Native.Nat.{ℕ, _+_, _≤_, _<_}
@@ -18,7 +18,7 @@ use Rattle.token_caveat_values.specs.declared.CaveatParts.the-variants.{Of, Bad
 use Rattle.token_caveat.proofs.DefectKinds.{caveat-kind}
 use Rattle.token.specs.Tokens.{tokenBytes}
 use Rattle.token.specs.declared.TokenAt.{TokenAt}
-use Rattle.outcome.specs.Decisions.{Decision, refused, granted}
+use Rattle.outcome.specs.Decisions.{refused, granted}
 use Rattle.narrow_child.specs.Child.{sized, childOf, caveatAdded}
 
 -- a token is no shorter than its last caveat, and not empty

@@ -16,7 +16,6 @@ use Rattle.records.proofs.Runs.{ends-inside, number-written, IsNumber, number-r
 use Rattle.records.proofs.Fields.{number-went}
 use Rattle.records_request.specs.Reading.{numbersOf, flagsThen, skewThen, sizeThen, nowThen, fixedAt}
 use Rattle.records_request.specs.declared.Numbers.{Numbers}
-use Rattle.records_request.specs.declared.Fixed.{Fixed}
 use Rattle.records_request.specs.declared.Fixed.the-variants.{Of, Bad}
 
 -- a place inside, with t behind it

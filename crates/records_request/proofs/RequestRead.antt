@@ -1,6 +1,5 @@
 -- What reads well as a request is a request within limits, written, and the answer's parts hold what is its.
 use mathlib.Core.Path.{_≡_, refl, subst}
-use mathlib.Core.Bool.{Bool}
 use mathlib.Core.List.{List}
 use Prim.Native.Nat.{ℕ, _%_}
 use native.Mathlib.Omega.{arith}
@@ -18,7 +17,6 @@ use Rattle.records_request.specs.declared.StringsAt.{StringsAt}
 use Rattle.records_request.specs.declared.Strings.{Strings}
 use Rattle.records_request.specs.declared.Strings.the-variants.{Of as StringsOf, Bad as NoStrings}
 use Rattle.records_request.specs.declared.RequestAt.{RequestAt}
-use Rattle.records_request.specs.declared.RequestParts.{RequestParts}
 use Rattle.records_request.specs.declared.RequestParts.the-variants.{Of, Bad}
 use Rattle.records_request.proofs.Holds.{Holds}
 use Rattle.records_request.proofs.Flags.{flags-read, amnesia-was}

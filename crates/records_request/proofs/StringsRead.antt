@@ -2,7 +2,7 @@
 use mathlib.Core.Path.{_≡_, refl, subst, _∙_}
 use mathlib.Core.Bool.{Bool, true, false}
 use mathlib.Core.List.{List, [], _++_, append-nil}
-use mathlib.Core.Option.{Option, some, none}
+use mathlib.Core.Option.{Option}
 use Prim.Native.Nat.{ℕ, _/_, _%_}
 use native.Mathlib.Omega.{arith}
 use borrow.Author.Tests.{eqb-true, ltb-false}
@@ -11,7 +11,7 @@ use lib.ListN.{length, drop, drop-of-length-le}
 use Rattle.basis.specs.Basis.{pick, between, IsBytes}
 use Rattle.basis.specs.declared.Span.{Span}
 use Rattle.basis.specs.declared.Part.{Part}
-use Rattle.basis.specs.declared.Part.the-variants.{Absent, At}
+use Rattle.basis.specs.declared.Part.the-variants.{Absent}
 use Rattle.basis.proofs.Parts.{on}
 use Rattle.basis.proofs.Held.{PartHeld}
 use Rattle.cbor_strings.specs.declared.Class.the-variants.{Upper, Path, Name, Printable}

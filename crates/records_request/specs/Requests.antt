@@ -4,12 +4,12 @@ use mathlib.Core.Path.{_≡_}
 use mathlib.Core.Bool.{Bool}
 use mathlib.Core.List.{List, [], _++_}
 use mathlib.Core.Option.{Option, some, none}
-use Prim.Native.Nat.{ℕ, _+_, _*_, _^_, _<_, _≤_}
+use Prim.Native.Nat.{ℕ, _+_, _*_, _≤_}
 use lib.ListN.{length}
 use Rattle.basis.specs.Basis.{pick}
-use Rattle.basis.specs.Limits.{skewMost, digestLength, methodMost, nameMost, audMost, requestPathMost}
-use Rattle.cbor_strings.specs.declared.Class.the-variants.{Hex, Upper, Path, Name, Printable}
-use Rattle.cbor_keys.specs.Maps.{present, IfPresent, GoodText}
+use Rattle.basis.specs.Limits.{skewMost, digestLength, methodMost, audMost, requestPathMost, Number32, Number64}
+use Rattle.cbor_strings.specs.declared.Class.the-variants.{Hex, Upper, Path, Printable}
+use Rattle.cbor_keys.specs.Maps.{present, IfPresent, GoodText, GoodName}
 use Rattle.records.specs.Records.{little, counted}
 
 pub record PerSecond : Type 0 where
@@ -84,19 +84,19 @@ abbrev pub FourBytes : List ℕ → Type 0
 FourBytes p = length p ≡ 4
 
 pub record GoodRate (r : PerSecond) : Type 0 where
-  pub few-per-s : r .per-s < 2 ^ 32
-  pub few-burst : r .burst < 2 ^ 32
+  pub few-per-s : Number32 (r .per-s)
+  pub few-burst : Number32 (r .burst)
 
 -- 01: "method (1 to 16, A-Z), path (1 to 1,024 bytes 0x21 to 0x7e, first "/"), tenant (as above) and, if flagged, audience (as above)",
 -- where above stand "tenant ..: 1 to 64 of letters, digits, "-", ".", "_". aud: 1 to 128 bytes 0x21 to 0x7e."
 pub record GoodRequest (x : Request) : Type 0 where
-  pub good-now : x .now < 2 ^ 64
-  pub good-size : x .size < 2 ^ 64
+  pub good-now : Number64 (x .now)
+  pub good-size : Number64 (x .size)
   pub good-skew : x .skew ≤ skewMost
   pub good-peer : IfPresent FourBytes (x .peer)
   pub good-digest : IfPresent (GoodText Hex digestLength digestLength) (x .digest)
   pub good-rate : IfPresent GoodRate (x .rate)
   pub good-method : GoodText Upper 1 methodMost (x .method)
   pub good-path : GoodText Path 1 requestPathMost (x .path)
-  pub good-tenant : GoodText Name 1 nameMost (x .tenant)
+  pub good-tenant : GoodName (x .tenant)
   pub good-audience : IfPresent (GoodText Printable 1 audMost) (x .audience)

@@ -21,7 +21,6 @@ use Rattle.records_table.specs.Tables.{Row, encodeRow, GoodRow}
 use Rattle.records_table.specs.Reading.{rowWith, rowKid, rowTid, rowBody, rowThen, readRow}
 use Rattle.records_table.specs.Inner.{Inside}
 use Rattle.records_table.specs.declared.RowAt.{RowAt}
-use Rattle.records_table.specs.declared.RowParts.{RowParts}
 use Rattle.records_table.specs.declared.RowParts.the-variants.{Of, Bad}
 
 -- a good row stands at `at` and ends where its key does

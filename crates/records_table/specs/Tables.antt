@@ -6,11 +6,10 @@ use mathlib.Core.Bool.{Bool, true, false}
 use mathlib.Core.List.{List, [], _∷_, _++_}
 use Prim.Native.Nat.{ℕ, _≤_}
 use lib.ListN.{length}
-use Rattle.cbor_strings.specs.declared.Class.the-variants.{Name}
-use Rattle.cbor_keys.specs.Maps.{GoodText}
+use Rattle.cbor_keys.specs.Maps.{GoodName}
 use Rattle.records.specs.Records.{counted, recordBytes}
 use Rattle.basis.specs.Basis.{pick}
-use Rattle.basis.specs.Limits.{nameMost, keyLength, rowsMost, rowKind}
+use Rattle.basis.specs.Limits.{keyLength, rowsMost, rowKind}
 use Rattle.records_table.specs.Order.{ascends, sameIds}
 
 pub record Row : Type 0 where
@@ -26,8 +25,8 @@ encodeTable [] = []
 encodeTable (r ∷ rs) = encodeRow r ++ encodeTable rs
 
 pub record GoodRow (r : Row) : Type 0 where
-  pub good-tid : GoodText Name 1 nameMost (r .tid)
-  pub good-kid : GoodText Name 1 nameMost (r .kid)
+  pub good-tid : GoodName (r .tid)
+  pub good-kid : GoodName (r .kid)
   pub key-long : length (r .key) ≡ keyLength
 
 -- each row good and behind the one before it

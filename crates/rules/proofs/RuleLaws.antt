@@ -7,7 +7,6 @@ use Prim.Native.Nat.{ℕ, _+_, _%_}
 use native.Mathlib.Omega.{arith}
 use lib.Dec.{leb}
 use lib.ListN.{length, drop}
-use Rattle.basis.specs.Basis.{between}
 use Rattle.basis.specs.declared.Part.{Part}
 use Rattle.basis.specs.declared.Part.the-variants.{Absent, At}
 use Rattle.basis.proofs.Held.{PartHeld}
@@ -18,7 +17,7 @@ use Rattle.basis.proofs.Parts.{past}
 use Rattle.cbor_strings.specs.declared.Class.the-variants.{Upper}
 use Rattle.cbor_keys.specs.Maps.{text, texts}
 use Rattle.cbor_keys.proofs.TextLaws.{text-written, text-held}
-use Rattle.token_cidr.specs.Prefixes.{Prefix as Address, GoodPrefix as GoodAddress}
+use Rattle.token_cidr.specs.Prefixes.{GoodPrefix as GoodAddress}
 use Rattle.token_cidr.specs.declared.Network.{Network}
 use Rattle.token_cidr.proofs.TextLaws.{prefixOf}
 use Rattle.token_cidr.specs.Bits.{agreeOf}

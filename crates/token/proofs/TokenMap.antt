@@ -31,7 +31,7 @@ use Rattle.token_front.specs.Front.{frontThen, rThen, rKeyThen, caveatsThen, cT
 use Rattle.token_front.specs.Ends.{endBy, caveatEnd}
 use Rattle.token_front.specs.declared.FrontAt.{FrontAt}
 use Rattle.token_front.specs.declared.FrontParts.{FrontParts}
-use Rattle.token_front.specs.declared.FrontParts.the-variants.{Of as FrontFound, Bad as NoFront}
+use Rattle.token_front.specs.declared.FrontParts.the-variants.{Bad as NoFront}
 use Rattle.token_back.specs.Back.{tagField, versionField, endThen, tidThen, kidThen, vThen, backOf}
 use Rattle.token_back.specs.Values.{tagAt, versionAt}
 use Rattle.token_back.specs.declared.BackParts.{BackParts}

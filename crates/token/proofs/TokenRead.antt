@@ -24,7 +24,7 @@ use Rattle.cbor_values.specs.declared.Item.the-variants.{End, Bad as NoItem}
 use Rattle.cbor_keys.specs.Keys.{keysOf}
 use Rattle.cbor_keys.specs.Reading.{wantedKey}
 use Rattle.cbor_keys.specs.Fields.{nameField}
-use Rattle.cbor_keys.specs.Maps.{text, entry}
+use Rattle.cbor_keys.specs.Maps.{text, entry, GoodName}
 use Rattle.cbor_keys.specs.declared.Names.the-variants.{Token as TokenKeys}
 use Rattle.cbor_keys.proofs.KeyLaws.{wanted-read}
 use Rattle.cbor_keys.proofs.FieldLaws.{name-field-read}
@@ -32,7 +32,7 @@ use Rattle.cbor_keys.proofs.StepLaws.{item-went, content-went, count-went, must
 use Rattle.token_scope.specs.Scopes.{Scope, encodeScope, GoodScope}
 use Rattle.token_scope.specs.Reading.{scopeOf}
 use Rattle.token_scope.proofs.ScopeRead.{scope-read, scope-went, scope-long}
-use Rattle.token_caveat.specs.Caveats.{Caveat, GoodName}
+use Rattle.token_caveat.specs.Caveats.{Caveat}
 use Rattle.token.specs.Tokens.{Token, encodeCaveats, tokenBytes, encodeToken, AllCaveats, GoodToken}
 use Rattle.token_front.specs.Front.{frontThen, rThen, rKeyThen, caveatsThen, cThen, mapThen, frontOf}
 use Rattle.token_front.specs.Ends.{caveatEnd}
@@ -47,7 +47,6 @@ use Rattle.token_back.specs.declared.BackAt.{BackAt}
 use Rattle.token_back.specs.declared.BackParts.{BackParts}
 use Rattle.token_back.specs.declared.BackParts.the-variants.{Of as BackFound, Bad as NoBack}
 use Rattle.token.specs.declared.TokenAt.{TokenAt}
-use Rattle.token.specs.declared.TokenParts.{TokenParts}
 use Rattle.token.specs.declared.TokenParts.the-variants.{Of}
 use Rattle.token.proofs.CaveatLists.{caveats-read}
 use Rattle.token.proofs.Holds.{HoldsFront, HoldsBack, Holds}

@@ -18,13 +18,13 @@ use Rattle.cbor_strings.proofs.StringLaws.{read-run-written, content-there}
 use Rattle.cbor_values.specs.declared.Item.the-variants.{End}
 use Rattle.cbor_keys.specs.Keys.{keysOf}
 use Rattle.cbor_keys.specs.Reading.{indexFrom}
-use Rattle.cbor_keys.specs.Maps.{text, entry}
+use Rattle.cbor_keys.specs.Maps.{text, entry, GoodName}
 use Rattle.cbor_keys.specs.declared.Names.the-variants.{Token as TokenKeys}
 use Rattle.cbor_keys.proofs.KeyLaws.{wanted-written}
 use Rattle.cbor_keys.proofs.FieldLaws.{name-field-written, name-lies, number-written}
 use Rattle.token_scope.specs.Scopes.{Scope, encodeScope, GoodScope}
 use Rattle.token_scope.proofs.ScopeWritten.{scope-written}
-use Rattle.token_caveat.specs.Caveats.{Caveat, GoodName}
+use Rattle.token_caveat.specs.Caveats.{Caveat}
 use Rattle.token.specs.Tokens.{Token, encodeCaveats, tokenBytes, encodeToken, AllCaveats, GoodToken}
 use Rattle.token_front.specs.Front.{rThen, rKeyThen, caveatsThen, cThen, mapThen, frontOf}
 use Rattle.token_back.specs.Back.{tagField, versionField}

@@ -4,10 +4,11 @@ use mathlib.Core.List.{List, [], _∷_, _++_, append-assoc, append-nil}
 use Prim.Native.Nat.{ℕ, _+_, _≤_, _<_}
 use native.Mathlib.Omega.{arith}
 use lib.ListN.{length, length-append}
+use Rattle.cbor_keys.specs.Maps.{GoodName}
 use Rattle.cbor_heads.proofs.HeadLengths.{head-one, head-two}
 use Rattle.token_scope.specs.Scopes.{Scope, encodeScope, GoodScope}
 use Rattle.token_scope.proofs.Lengths.{scope-short}
-use Rattle.token_caveat.specs.Caveats.{Caveat, encodeCaveat, GoodName, GoodCaveat}
+use Rattle.token_caveat.specs.Caveats.{Caveat, encodeCaveat, GoodCaveat}
 use Rattle.token.specs.Tokens.{Token, encodeCaveats, tokenBytes, encodeToken, AllCaveats, GoodToken}
 use Rattle.token.specs.Writing.{freshBytes, childBytes}
 

@@ -8,9 +8,9 @@ use Rattle.basis.specs.Limits.{caveatsMost, tagLength, tokenVersion}
 use Rattle.cbor_heads.specs.Majors.{map, array, byteString, unsigned}
 use Rattle.cbor_heads.specs.Heads.{head}
 use Rattle.cbor_strings.specs.Strings.{string}
-use Rattle.cbor_keys.specs.Maps.{text, entry}
+use Rattle.cbor_keys.specs.Maps.{text, entry, GoodName}
 use Rattle.token_scope.specs.Scopes.{Scope, encodeScope, GoodScope}
-use Rattle.token_caveat.specs.Caveats.{Caveat, encodeCaveat, GoodName, GoodCaveat}
+use Rattle.token_caveat.specs.Caveats.{Caveat, encodeCaveat, GoodCaveat}
 
 pub record Token : Type 0 where
   pub caveats : List Caveat

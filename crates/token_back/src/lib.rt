@@ -3,7 +3,6 @@
 use basis::Span;
 use basis::limits;
 use cbor_heads::Count;
-use cbor_heads::defect::BOUNDS;
 use cbor_heads::defect::CBOR;
 use cbor_heads::defect::UNKNOWN;
 use cbor_heads::major;

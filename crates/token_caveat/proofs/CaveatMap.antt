@@ -12,7 +12,7 @@ use Rattle.cbor_heads.specs.declared.Count.the-variants.{Of as Counted, Bad as 
 use Rattle.cbor_heads.proofs.CountLaws.{counted}
 use Rattle.cbor_strings.specs.declared.Class.the-variants.{Name, Printable, Path}
 use Rattle.cbor_values.specs.declared.Item.{Item}
-use Rattle.cbor_values.specs.declared.Item.the-variants.{End, Bad as NoItem}
+use Rattle.cbor_values.specs.declared.Item.the-variants.{Bad as NoItem}
 use Rattle.cbor_keys.specs.Reading.{keyAt, wantedKey}
 use Rattle.cbor_keys.specs.Steps.{afterItem, afterCount, afterKey}
 use Rattle.cbor_keys.specs.ReadMap.{Field, keyEnd, requiredOf, entriesOf}

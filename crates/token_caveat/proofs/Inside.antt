@@ -21,7 +21,7 @@ use Rattle.token_cidr.specs.declared.Cidr.the-variants.{Of as CidrOf, Bad as No
 use Rattle.cbor_keys.specs.Reading.{keyAt, wantedKey}
 use Rattle.cbor_keys.specs.Fields.{nameField, numberField}
 use Rattle.cbor_keys.specs.declared.Names.the-variants.{Caveat as CaveatKeys, T, Rate as RateKeys, Custom as CustomKeys}
-use Rattle.cbor_keys.specs.Indexes.{ratePerS, rateBurst, customNs, customCbor, customName, caveatT, caveatV}
+use Rattle.cbor_keys.specs.Indexes.{customCbor}
 use Rattle.cbor_keys.specs.Indexes.{tExp, tNbf, tAud, tMethod, tPathPrefix, tIpCidr, tBytesLe, tRate, tTenant, tAmnesia, tGovPolicyDigest, tCustom}
 use Rattle.cbor_keys.proofs.Inside.{item-step, content-step, count-step, key-step, key-in, wanted-in, name-field-in, number-field-in}
 use Rattle.token_scope.specs.Methods.{methodsOf}

@@ -6,7 +6,7 @@ use Prim.Native.Nat.{ℕ, _+_, _-_, _/_, _%_, _^_, _≤_, _<_}
 use native.Mathlib.Omega.{arith}
 use lib.ListN.{length, drop, length-append}
 use lib.Dec.{ltb}
-use Rattle.basis.specs.Basis.{pick, ascii, fromTo, between}
+use Rattle.basis.specs.Basis.{pick, ascii, fromTo}
 use Rattle.basis.specs.declared.Span.{Span}
 use Rattle.cbor_values.specs.Lists.{listOf}
 use Rattle.basis.specs.Same.{sameOf}
@@ -22,14 +22,14 @@ use Rattle.token_cidr.specs.Reading.{netOf}
 use Rattle.token_cidr.proofs.TextLaws.{text-reads}
 use Rattle.cbor_keys.specs.Keys.{keysOf}
 use Rattle.cbor_keys.specs.Reading.{indexFrom}
-use Rattle.cbor_keys.specs.Maps.{text, entry, GoodText}
+use Rattle.cbor_keys.specs.Maps.{text, entry, GoodText, GoodName}
 use Rattle.cbor_keys.specs.declared.Names.the-variants.{Rate as RateKeys, Custom as CustomKeys}
 use Rattle.cbor_keys.proofs.KeyLaws.{wanted-written}
 use Rattle.cbor_keys.proofs.FieldLaws.{number-written, name-lies, name-field-written, number-field-written}
 use Rattle.cbor_keys.proofs.TextLaws.{text-written, text-held}
 use Rattle.token_scope.specs.Scopes.{encodeMethods, GoodMethods}
 use Rattle.token_scope.proofs.MethodLaws.{methods-written, methods-lie}
-use Rattle.token_caveat.specs.Caveats.{Caveat, exp, nbf, aud, method, path-prefix, ip-cidr, bytes-le, rate, tenant, amnesia, gov-policy-digest, custom, vOf, GoodName, GoodCaveat}
+use Rattle.token_caveat.specs.Caveats.{Caveat, exp, nbf, aud, method, path-prefix, ip-cidr, bytes-le, rate, tenant, amnesia, gov-policy-digest, custom, vOf, GoodCaveat}
 use Rattle.token_caveat_values.specs.Values.{numberValue, textValue, digestValue, methodValue, cidrBy, cidrValue, amnesiaValue}
 use Rattle.token_caveat_values.specs.Maps.{burstThen, rateMap, rateValue}
 use Rattle.token_caveat_values.specs.Maps.{customOf, customEnd, customThen, nsThen, customMap, customValue}

@@ -2,17 +2,17 @@
 -- Rate value: burst, per_s, each below 2^32. Custom value: ns, cbor, name"; the names of t are the interop paper's (2.3).
 use mathlib.Core.Bool.{Bool, true, false}
 use mathlib.Core.List.{List, _++_}
-use Prim.Native.Nat.{ℕ, _<_, _^_}
+use Prim.Native.Nat.{ℕ}
 use Prim.Native.String.{String}
 use Rattle.basis.specs.Basis.{ascii}
-use Rattle.basis.specs.Limits.{nameMost, audMost, digestLength, depthMost}
+use Rattle.basis.specs.Limits.{audMost, digestLength, depthMost, Number64, Number32}
 use Rattle.cbor_heads.specs.Majors.{unsigned, map, simple, simpleFalse, simpleTrue}
 use Rattle.cbor_heads.specs.Heads.{head}
-use Rattle.cbor_strings.specs.declared.Class.the-variants.{Name, Printable, Hex}
+use Rattle.cbor_strings.specs.declared.Class.the-variants.{Printable, Hex}
 use Rattle.cbor_values.specs.Trees.{Value, encode, Good}
 use Rattle.token_cidr.specs.Prefixes.{Prefix, prefixText, GoodPrefix}
-use Rattle.cbor_keys.specs.Maps.{text, entry, GoodText}
-use Rattle.token_scope.specs.Scopes.{encodeMethods, GoodMethods, GoodPath, Number64}
+use Rattle.cbor_keys.specs.Maps.{text, entry, GoodText, GoodName}
+use Rattle.token_scope.specs.Scopes.{encodeMethods, GoodMethods, GoodPath}
 
 -- `rate per-s burst`; `custom ns name value`
 pub data Caveat : Type 0 where
@@ -64,10 +64,6 @@ vOf (custom ns name value) = head map 3 ++ (entry "ns" (text ns) ++ (entry "cbor
 unfoldable pub encodeCaveat : Caveat → List ℕ
 encodeCaveat c = head map 2 ++ (entry "t" (text (ascii (tOf c))) ++ entry "v" (vOf c))
 
--- 01: "tid, kid, tenant, ns, name: 1 to 64 of letters, digits, "-", ".", "_""
-abbrev pub GoodName : List ℕ → Type 0
-GoodName = GoodText Name 1 nameMost
-
 unfoldable pub GoodCaveat : Caveat → Type 0
 GoodCaveat (exp n) = Number64 n
 GoodCaveat (nbf n) = Number64 n
@@ -76,7 +72,7 @@ GoodCaveat (method ms) = GoodMethods ms
 GoodCaveat (path-prefix p) = GoodPath p
 GoodCaveat (ip-cidr p) = GoodPrefix p
 GoodCaveat (bytes-le n) = Number64 n
-GoodCaveat (rate per-s burst) = (per-s < 2 ^ 32) × (burst < 2 ^ 32)
+GoodCaveat (rate per-s burst) = Number32 per-s × Number32 burst
 GoodCaveat (tenant t) = GoodName t
 GoodCaveat (amnesia b) = Unit {0}
 GoodCaveat (gov-policy-digest d) = GoodText Hex digestLength digestLength d

@@ -4,7 +4,6 @@
 use basis::limits;
 use cbor_heads::Count;
 use cbor_heads::defect::UNKNOWN;
-use cbor_heads::major;
 use cbor_keys::Key;
 use cbor_keys::Names;
 use cbor_keys::index;

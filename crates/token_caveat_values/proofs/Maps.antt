@@ -14,7 +14,7 @@ use Rattle.cbor_values.specs.declared.Item.the-variants.{Bad as NoItem}
 use Rattle.cbor_keys.specs.Reading.{wantedKey}
 use Rattle.cbor_keys.specs.Fields.{nameAt}
 use Rattle.cbor_keys.specs.Steps.{afterItem, afterCount}
-use Rattle.cbor_keys.specs.ReadMap.{Field, required, contentEnd, countEnd, requiredOf, entriesOf}
+use Rattle.cbor_keys.specs.ReadMap.{required, contentEnd, countEnd, requiredOf, entriesOf}
 use Rattle.cbor_keys.specs.declared.Names.the-variants.{Rate, Custom}
 use Rattle.cbor_keys.proofs.MapLaws.{required-next, item-end, content-field, count-field}
 use Rattle.token_caveat_values.specs.Maps.{burstThen, rateMap, rateValue, customEnd, customThen, nsThen, customMap, customValue}

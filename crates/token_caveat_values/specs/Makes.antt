@@ -1,7 +1,6 @@
 -- Inner. The caveat that a number or a text is the value of, for the readers that several of them share.
 use Prim.Native.Nat.{ℕ}
 use Rattle.basis.specs.declared.Span.{Span}
-use Rattle.cbor_strings.specs.declared.Class.{Class}
 use Rattle.token_caveat_values.specs.declared.CaveatAt.{CaveatAt}
 use Rattle.token_caveat_values.specs.declared.CaveatAt.the-variants.{Exp, Nbf, BytesLe, Aud, PathPrefix, Tenant}
 use Rattle.token_caveat_values.specs.declared.NumberOf.{NumberOf}

@@ -4,7 +4,7 @@ use mathlib.Core.List.{List}
 use Prim.Native.Nat.{ℕ}
 use Rattle.basis.specs.Basis.{fromTo}
 use Rattle.basis.specs.Limits.{caveatsMost}
-use Rattle.cbor_heads.specs.Counts.{readCount, arrayUpTo, mapWith}
+use Rattle.cbor_heads.specs.Counts.{arrayUpTo, mapWith}
 use Rattle.cbor_values.specs.Lists.{listOf}
 use Rattle.cbor_values.specs.declared.ListAt.{ListAt}
 use Rattle.cbor_values.specs.Reading.{itemsOf}

@@ -3,9 +3,6 @@
 use basis::Span;
 use basis::limits;
 use cbor_heads::Count;
-use cbor_heads::defect::BOUNDS;
-use cbor_heads::defect::UNKNOWN;
-use cbor_heads::major;
 use cbor_keys::Names;
 use cbor_keys::index;
 use cbor_values::Item;

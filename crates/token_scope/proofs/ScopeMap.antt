@@ -1,12 +1,9 @@
 -- A scope is read as the one reading of maps has it, with its keys.
 use mathlib.Core.Path.{_≡_, refl, sym, ap, _∙_}
-use mathlib.Core.Bool.{Bool, true, false}
 use mathlib.Core.List.{List, [], _∷_}
 use Prim.Native.Nat.{ℕ, zero, suc, _-_, _≤_}
 use native.Mathlib.Omega.{arith}
-use borrow.Author.Tests.{eq-eqb, ne-eqb, le-ltb, lt-ltb}
-use lib.Dec.{eqb, ltb}
-use Rattle.basis.specs.Basis.{pick}
+use borrow.Author.Tests.{ne-eqb, le-ltb}
 use Rattle.basis.specs.declared.Span.{Span}
 use Rattle.basis.specs.declared.Part.{Part}
 use Rattle.basis.specs.declared.Part.the-variants.{Absent, At}
@@ -22,7 +19,7 @@ use Rattle.cbor_values.specs.declared.Item.the-variants.{End, Bad as NoItem}
 use Rattle.cbor_values.specs.declared.ListAt.{ListAt}
 use Rattle.cbor_keys.specs.Reading.{keyAt, wantedKey}
 use Rattle.cbor_keys.specs.Steps.{afterItem, afterCount, afterKey}
-use Rattle.cbor_keys.specs.ReadMap.{Field, required, optional, contentEnd, countEnd, requiredOf, fieldAt, entryThen, entriesOf, readMap}
+use Rattle.cbor_keys.specs.ReadMap.{Field, required, optional, countEnd, requiredOf, fieldAt, entryThen, entriesOf}
 use Rattle.cbor_keys.specs.declared.Names.the-variants.{Scope}
 use Rattle.cbor_keys.specs.declared.Key.{Key}
 use Rattle.cbor_keys.specs.declared.Key.the-variants.{Of as Known, Bad as NoKey}

@@ -8,6 +8,7 @@ use native.Mathlib.Omega.{arith}
 use borrow.Author.Tests.{eqb-true, ltb-false}
 use lib.Dec.{eqb, ltb}
 use lib.ListN.{length, drop}
+use Rattle.basis.specs.Limits.{Number64}
 use Rattle.basis.specs.Basis.{pick, ascii, IsBytes}
 use Rattle.basis.proofs.Parts.{on}
 use Rattle.basis.proofs.Held.{PartHeld}
@@ -28,7 +29,7 @@ use Rattle.cbor_keys.proofs.KeyLaws.{named-read, wanted-read}
 use Rattle.cbor_keys.proofs.FieldLaws.{number-field-read}
 use Rattle.cbor_keys.proofs.TextLaws.{text-read}
 use Rattle.cbor_keys.proofs.StepLaws.{count-went, key-went, content-went, item-went, must-take, must-pass}
-use Rattle.token_scope.specs.Scopes.{Scope, encodeMethods, encodeScope, GoodMethods, Number64, GoodScope}
+use Rattle.token_scope.specs.Scopes.{Scope, encodeMethods, encodeScope, GoodMethods, GoodScope}
 use Rattle.token_scope.specs.Methods.{methodsOf}
 use Rattle.token_scope.specs.Reading.{threeParts, anotherThen, maxBytesThen, limitThen, methodsThen, methodsNext, prefixNext, prefixThen, firstThen, entriesThen, scopeOf, afterScope}
 use Rattle.token_scope.specs.declared.MethodsParts.the-variants.{Of as MethodsFound}
@@ -36,7 +37,6 @@ use Rattle.basis.specs.declared.Part.{Part}
 use Rattle.cbor_values.specs.declared.ListAt.{ListAt}
 use Rattle.token_scope.specs.declared.ScopeAt.{ScopeAt}
 use Rattle.basis.specs.declared.Part.the-variants.{Absent, At}
-use Rattle.token_scope.specs.declared.Limit.{Limit}
 use Rattle.token_scope.specs.declared.Limit.the-variants.{Absent as NoLimit, Of as AtMost}
 use Rattle.token_scope.specs.declared.ScopeParts.{ScopeParts}
 use Rattle.token_scope.specs.declared.ScopeParts.the-variants.{Of, Bad}

@@ -7,6 +7,7 @@ use native.Mathlib.Nat.{add-zero}
 use native.Mathlib.Omega.{arith}
 use borrow.Author.Tests.{le-ltb}
 use lib.ListN.{length, drop, length-append}
+use Rattle.basis.specs.Limits.{Number64}
 use Rattle.basis.specs.Basis.{ascii, fromTo}
 use Rattle.cbor_values.specs.Lists.{listOf}
 use Rattle.basis.specs.Same.{sameOf}
@@ -21,7 +22,7 @@ use Rattle.cbor_keys.specs.declared.Names.the-variants.{Scope as ScopeKeys}
 use Rattle.cbor_keys.proofs.KeyLaws.{key-written, wanted-written}
 use Rattle.cbor_keys.proofs.FieldLaws.{number-field-written}
 use Rattle.cbor_keys.proofs.TextLaws.{text-written, text-held}
-use Rattle.token_scope.specs.Scopes.{Scope, encodeMethods, encodeScope, GoodMethods, GoodPath, Number64, GoodScope}
+use Rattle.token_scope.specs.Scopes.{Scope, encodeMethods, encodeScope, GoodMethods, GoodPath, GoodScope}
 use Rattle.token_scope.specs.Reading.{threeParts, maxBytesThen, limitThen, methodsThen, prefixNext, prefixThen, firstThen, entriesThen, scopeOf}
 use Rattle.basis.specs.declared.Part.{Part}
 use Rattle.cbor_values.specs.declared.ListAt.{ListAt}

@@ -2,9 +2,9 @@
 -- absent), methods, max_bytes (may be absent)".
 use mathlib.Core.List.{List, [], _∷_, _++_}
 use mathlib.Core.Option.{Option}
-use Prim.Native.Nat.{ℕ, _+_, _<_, _≤_, _^_}
+use Prim.Native.Nat.{ℕ, _+_, _≤_}
 use lib.ListN.{length}
-use Rattle.basis.specs.Limits.{methodMost, methodsMost, pathMost}
+use Rattle.basis.specs.Limits.{methodMost, methodsMost, pathMost, Number64}
 use Rattle.cbor_heads.specs.Majors.{unsigned, array, map}
 use Rattle.cbor_heads.specs.Heads.{head}
 use Rattle.cbor_strings.specs.declared.Class.the-variants.{Path, Upper}
@@ -39,10 +39,6 @@ pub record GoodMethods (ms : List (List ℕ)) : Type 0 where
 -- 01: "Prefix and path_prefix: 1 to 256 such bytes, first "/""
 abbrev pub GoodPath : List ℕ → Type 0
 GoodPath = GoodText Path 1 pathMost
-
--- 01: "any unsigned 64-bit number"
-abbrev pub Number64 : ℕ → Type 0
-Number64 n = n < 2 ^ 64
 
 pub record GoodScope (s : Scope) : Type 0 where
   pub good-prefix : IfPresent GoodPath (s .prefix)

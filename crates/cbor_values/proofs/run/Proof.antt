@@ -1,4 +1,4 @@
-use borrow.Author.Tests.{lt-ltb, le-ltb, eq-eqb, ne-eqb}
+use borrow.Author.Tests.{lt-ltb, le-ltb}
 use Rattle.cbor_values.specs.Reading.{runOf}
 use borrow.Author.Needs.{needs}
 use Rattle.cbor_values.proofs.run.Statement.{statement}

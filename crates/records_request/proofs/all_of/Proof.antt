@@ -1,5 +1,4 @@
 use mathlib.Core.Path.{refl}
-use borrow.Author.Needs.{needs}
 use Rattle.records_request.proofs.all_of.Statement.{statement}
 use Rattle.records_request.proofs.all_of.Tie as tie
 use Rattle.records_request.proofs.all_of.Reads as reads

@@ -1,4 +1,3 @@
-use mathlib.Core.Path.{sym, _∙_}
 use Rattle.verify_walk.proofs.Keyed.{first-ready}
 use borrow.Author.Needs.{needs}
 use Rattle.verify_walk.proofs.link_first.Statement.{statement}
