@@ -7,14 +7,14 @@ use borrow.Author.Tests.{le-leb, lt-leb, lt-ltb, le-ltb}
 use lib.ListN.{length}
 use Rattle.cbor_writing.specs.Placing.{Placed}
 use Rattle.cbor_writing.proofs.PlacingLaws.{placed-front}
-use Rattle.bundle.specs.Lines.{badLine, linesFrom, linesOf, enough, Judged}
+use Rattle.bundle.specs.Lines.{badLine, linesFrom, linesOf, enough, LinesWritten}
 
 module _ (input entry : List ℕ) where
-  pub too-short : length entry < enough → Judged input entry 0 entry
+  pub too-short : length entry < enough → LinesWritten input entry 0 entry
   too-short h = record { counted = rw (lt-leb _ _ h); content = rw (lt-leb _ _ h) }
 
   module _ {r : ℕ} {exit : List ℕ} (big : enough ≤ length entry) where
-    told : (lines : List ℕ) → lines ≡ linesOf input → Placed lines entry 0 r exit → Judged input entry r exit
+    told : (lines : List ℕ) → lines ≡ linesOf input → Placed lines entry 0 r exit → LinesWritten input entry r exit
     told lines e p =
         let b : Placed (linesOf input) entry 0 r exit = subst (λ (x : List ℕ). Placed x entry 0 r exit) e p in
         record {
@@ -22,10 +22,10 @@ module _ (input entry : List ℕ) where
           content = rw (le-leb _ _ big) (b .content ∙ placed-front (linesOf input) entry);
         }
 
-    pub too-long : 65536 < length input → Placed badLine entry 0 r exit → Judged input entry r exit
+    pub too-long : 65536 < length input → Placed badLine entry 0 r exit → LinesWritten input entry r exit
     unfolding linesOf
     too-long h p = told badLine (rw (lt-ltb _ _ h)) p
 
-    pub walked : length input ≤ 65536 → Placed (linesFrom 16384 input [] [] 0) entry 0 r exit → Judged input entry r exit
+    pub walked : length input ≤ 65536 → Placed (linesFrom 16384 input [] [] 0) entry 0 r exit → LinesWritten input entry r exit
     unfolding linesOf
     walked h p = told (linesFrom 16384 input [] [] 0) (rw (le-ltb _ _ h)) p

@@ -54,6 +54,6 @@ abbrev pub enough : ℕ
 enough = 442368
 
 -- the lines are written over the front of a room that is always enough; in a shorter one nothing is
-pub record Judged (input entry : List ℕ) (count : ℕ) (exit : List ℕ) : Type 0 where
+pub record LinesWritten (input entry : List ℕ) (count : ℕ) (exit : List ℕ) : Type 0 where
   pub counted : count ≡ pick (leb enough (length entry)) (length (linesOf input)) 0
   pub content : exit ≡ pick (leb enough (length entry)) (over (linesOf input) entry) entry

@@ -10,7 +10,7 @@ ghost use lib.ListN.{length};
 ghost use Rattle.answers.specs.Answers.{answerOf};
 ghost use Rattle.cbor_writing.specs.Placing.{Placed};
 ghost use Rattle.basis.specs.Limits.{bundleMost};
-ghost use Rattle.bundle.specs.Lines.{nameIn, lineWords, line, linesFrom, recordsMost, enough, Judged};
+ghost use Rattle.bundle.specs.Lines.{nameIn, lineWords, line, linesFrom, recordsMost, enough, LinesWritten};
 
 // Room for the lines of any bundle: 16,384 of at most 27 bytes.
 pub const ENOUGH: usize = 442368;
@@ -88,7 +88,7 @@ fn walk(input: &[u8], room: &mut [u8]) -> usize
 // Writes the lines at the front of the room and says how long they are; in a room that is not enough it
 // writes nothing and says 0.
 pub fn judge_bundle(input: &[u8], room: &mut [u8]) -> usize
-    ensures { λ r. ⌜ Judged (now (input .entry)) (now (room .entry)) r (now (room .exit)) ⌝ }
+    ensures { λ r. ⌜ LinesWritten (now (input .entry)) (now (room .entry)) r (now (room .exit)) ⌝ }
 {
     if room.len() < ENOUGH {
         return 0;

@@ -1,5 +1,5 @@
--- Meaning. CBOR heads: how a number is written behind a major type (RFC 8949 section 3 and 4.2.1), and the one reading of it. Document 01,
--- "Token bytes": "definite lengths, shortest heads".
+-- Meaning. CBOR heads: how a number is written behind a major type (RFC 8949, sections 3 and 4.2.1). Document 01, "Token bytes": "definite
+-- lengths, shortest heads".
 use mathlib.Core.List.{List, [], _∷_, _++_}
 use Prim.Native.Nat.{ℕ, zero, suc, _+_, _*_, _/_, _%_}
 use lib.Dec.{ltb}

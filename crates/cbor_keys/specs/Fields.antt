@@ -1,4 +1,4 @@
--- Reading. A key and the value behind it, for the values that several maps have: names and numbers.
+-- Reading. The key wanted and the value behind it, for the values that several maps have: names and numbers.
 use mathlib.Core.List.{List}
 use Prim.Native.Nat.{ℕ}
 use Rattle.basis.specs.Limits.{nameMost}

@@ -1,6 +1,4 @@
--- Meaning. The keys of each map and the names of t, and the one reading of a name. Document 01, "Reading order": "Its key not known:
--- schema.unknown_field; known but repeated, out of order, or with a required key passed over ..: parse.cbor. .. Keys and t have no length
--- range of their own, and any content that is not a known name is schema.unknown_field."
+-- Meaning. The keys of each map and the names of t, in their order.
 use mathlib.Core.List.{List, [], _∷_}
 use Prim.Native.String.{String}
 use Rattle.cbor_keys.specs.declared.Names.{Names}

@@ -1,5 +1,5 @@
--- Meaning. Strings: how one is written, its class of content, and the one reading of it. Document 01, "Reading order": "bad head or type,
--- parse.cbor; length outside its range, parse.bounds; bytes missing, parse.cbor; bad content, parse.cbor".
+-- Meaning. Strings: how one is written, and the classes of content. Document 01, "Token bytes": "tid, kid, tenant, ns, name: 1 to 64 of
+-- letters, digits, "-", ".", "_". aud: 1 to 128 bytes 0x21 to 0x7e. Prefix and path_prefix: 1 to 256 such bytes, first "/"."
 use mathlib.Core.Bool.{Bool, true, _&&_, _||_}
 use mathlib.Core.List.{List, [], _∷_, _++_}
 use Prim.Native.Nat.{ℕ}

@@ -1,4 +1,4 @@
--- Reading. A list as it lies: how many items there are, and from where to where.
+-- Inner. A list as it lies: how many items there are, and from where to where.
 use Prim.Native.Nat.{ℕ}
 use Rattle.basis.specs.declared.Span.{Span}
 use Rattle.cbor_values.specs.declared.ListAt.{ListAt}

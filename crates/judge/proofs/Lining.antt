@@ -7,10 +7,10 @@ use borrow.Author.Tests.{le-leb}
 use lib.ListN.{length, take, drop, length-append}
 use lib.Seq.{take-at}
 use Rattle.basis.specs.Basis.{over}
-use Rattle.bundle.specs.Lines.{linesOf, Judged}
+use Rattle.bundle.specs.Lines.{linesOf, LinesWritten}
 use Rattle.judge.specs.Lined.{Lined}
 
-module _ (input entry exit : List ℕ) {n : ℕ} (l : length entry ≡ 442368) (j : Judged input entry n exit) where
+module _ (input entry exit : List ℕ) {n : ℕ} (l : length entry ≡ 442368) (j : LinesWritten input entry n exit) where
   enough : 442368 ≤ length entry
   enough = omega arith
 

@@ -1,4 +1,5 @@
--- Meaning. The answers of the readers as four numbers, so that a host test in another language can compare them with its own.
+-- Inner. For the host tests alone: the answers of the readers as four numbers, so that a test in another language can compare them with
+-- its own.
 use mathlib.Core.Path.{_≡_}
 use mathlib.Core.Bool.{Bool, true, false}
 use mathlib.Core.List.{List}

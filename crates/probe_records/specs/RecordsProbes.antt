@@ -1,5 +1,5 @@
--- Meaning. What the readers of tables and requests say, as numbers, so that a host test in another language can compare them with its own.
--- Numbers without a meaning are 0.
+-- Inner. For the host tests alone: what the readers of tables and requests say, as numbers, so that a test in another language can compare
+-- them with its own. Numbers without a meaning are 0.
 use mathlib.Core.Bool.{Bool, true, false}
 use mathlib.Core.List.{List, [], _∷_}
 use Prim.Native.Nat.{ℕ}

@@ -1,5 +1,6 @@
--- Reading. Need not be believed: the laws fix it both ways, since it has one defect. A number, a string behind its length, and a record, at
--- a place. Document 01, "House records": "Body length (two bytes, little-endian), kind (two bytes), body."
+-- Reading. Need not be believed: the laws fix it both ways (`text-written`, `text-read`, `record-written`, `record-read`), since it has one
+-- defect. A number, a string behind its length, and a record, at a place. A string from the top: its length, which is in range; its bytes;
+-- their class. A record: its body's length, its kind, its body.
 use mathlib.Core.List.{List}
 use Prim.Native.Nat.{ℕ, _+_, _-_}
 use lib.Dec.{ltb}

@@ -1,5 +1,5 @@
--- Meaning. House records, how they are written and the one reading of them. Document 01, "House records": "Body length (two bytes,
--- little-endian), kind (two bytes), body. .. Numbers are little-endian." A string stands behind its length.
+-- Meaning. House records, and how they are written. Document 01, "House records": "Body length (two bytes, little-endian), kind (two bytes),
+-- body. .. Numbers are little-endian." A string stands behind its length.
 use mathlib.Core.List.{List, [], _∷_, _++_}
 use Prim.Native.Nat.{ℕ, zero, suc, _+_, _*_, _/_, _%_}
 use lib.ListN.{length}

@@ -1,6 +1,6 @@
--- Reading. Need not be believed: the laws fix it both ways (`request-written`, `request-read`), since it has one defect. The one reading of
--- a request body, part by part in document 01's order: "now (8), body size (8), skew (2, at most 300), flags (1 ..); then, if flagged, peer
--- .., digest .., per_s and burst ..; then method .., path .., tenant .. and, if flagged, audience". Any defect is ctx.bad.
+-- Reading. Need not be believed: the laws fix it both ways (`request-written`, `request-read`), since it has one defect. A request body. From
+-- the top: the numbers now, body size, skew and flags; what is flagged of peer, digest and rate; the strings method, path and tenant, and the
+-- audience, if it is flagged; and nothing behind them.
 use mathlib.Core.List.{List}
 use Prim.Native.Nat.{ℕ, _/_, _%_}
 use lib.Dec.{eqb, ltb}

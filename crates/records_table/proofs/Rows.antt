@@ -19,7 +19,7 @@ use Rattle.records.proofs.Runs.{ends-inside}
 use Rattle.records.proofs.Fields.{run-went, record-went, counted-length, text-written, text-behind, text-inside, text-lies, IsText, text-read, record-written, record-body, IsRecord, record-read}
 use Rattle.records_table.specs.Tables.{Row, encodeRow, GoodRow}
 use Rattle.records_table.specs.Reading.{rowWith, rowKid, rowTid, rowBody, rowThen, readRow}
-use Rattle.records_table.specs.Inner.{Inside}
+use Rattle.records_table.specs.Inner.{IdsInside}
 use Rattle.records_table.specs.declared.RowAt.{RowAt}
 use Rattle.records_table.specs.declared.RowParts.the-variants.{Of, Bad}
 
@@ -30,7 +30,7 @@ pub record IsRow (s : List ℕ) (at : ℕ) (row : RowAt) : Type 0 where
   pub tid-held : between s (row .tid) ≡ tree .tid
   pub kid-held : between s (row .kid) ≡ tree .kid
   pub key-held : between s (row .key) ≡ tree .key
-  pub ids : Inside s row
+  pub ids : IdsInside s row
   pub key-order : row .key .from ≤ row .key .to
   pub inside : row .key .to ≤ length s
   pub there : drop at s ≡ encodeRow tree ++ drop (row .key .to) s

@@ -11,7 +11,7 @@ use Rattle.basis.specs.declared.Span.{Span}
 use Rattle.basis.proofs.Parts.{take-least}
 use Rattle.records_table.specs.Order.{ascends, sameIds}
 use Rattle.records_table.specs.Reading.{rowWith, readRow, afterRow, orderedThen, rowAfter, okFrom, tableOk, foundThen, foundFrom, findFrom, keyStart, placeFrom}
-use Rattle.records_table.specs.Inner.{Inside}
+use Rattle.records_table.specs.Inner.{IdsInside}
 use Rattle.records_table.specs.declared.RowAt.{RowAt}
 use Rattle.records_table.specs.declared.RowParts.{RowParts}
 use Rattle.records_table.specs.declared.RowParts.the-variants.{Of, Bad}
@@ -23,14 +23,14 @@ before-all = rowWith (fromTo 0 0) (fromTo 0 0) (fromTo 0 0)
 
 -- so many rows may follow, the last one's ids lie inside, and what follows decides
 pub record Judged (s : List ℕ) (left : ℕ) (last : RowAt) : Type 0 where
-  pub ids : Inside s last
+  pub ids : IdsInside s last
   pub rest : okFrom left s (between s (last .tid)) (between s (last .kid)) (last .key .to) ≡ tableOk s
 
 pub judged-none : (s : List ℕ) → Judged s 64 before-all
 unfolding tableOk
 judged-none s = record { ids = record { tid-order = omega arith; tid-inside = omega arith; kid-order = omega arith; kid-inside = omega arith }; rest = refl }
 
-pub row-inside : (s : List ℕ) → IsBytes s → (at : ℕ) {row : RowAt} → readRow s at ≡ Of row → Inside s row
+pub row-inside : (s : List ℕ) → IsBytes s → (at : ℕ) {row : RowAt} → readRow s at ≡ Of row → IdsInside s row
 row-inside s b at e = row-read s b at e .ids
 
 -- a row in its place is a row

@@ -5,7 +5,7 @@ use lib.ListN.{length}
 use Rattle.records_table.specs.declared.RowAt.{RowAt}
 
 -- ids that lie inside the table, so that they can be lent
-pub record Inside (s : List ℕ) (row : RowAt) : Type 0 where
+pub record IdsInside (s : List ℕ) (row : RowAt) : Type 0 where
   pub tid-order : row .tid .from ≤ row .tid .to
   pub tid-inside : row .tid .to ≤ length s
   pub kid-order : row .kid .from ≤ row .kid .to

@@ -1,6 +1,6 @@
--- Reading. Need not be believed: the laws fix it both ways (`table-written`, `table-read`, `find-finds`), since it has one defect. The one
--- reading of a key table, and the lookup. Document 01, "House records": "Anything else is table.bad. The lookup hands back the 32 key bytes
--- as a part of the table ..; where the table is bad or has no such row, an empty part."
+-- Reading. Need not be believed: the laws fix it both ways (`table-written`, `table-read`, `find-finds`), since it has one defect. A key
+-- table, and the lookup. From the top: row by row to the end, 64 at most; of each row the record and its kind, tid, kid, and 32 bytes of key
+-- behind which the body ends; and its ids stand behind those of the row before. The lookup goes over the same rows.
 use mathlib.Core.Bool.{Bool, true, false}
 use mathlib.Core.List.{List, []}
 use Prim.Native.Nat.{ℕ, zero, suc, _-_}

@@ -9,7 +9,7 @@ ghost use mathlib.Core.Path.{_≡_};
 ghost use Rattle.records_table.specs.Order.{beforeOf, ascends, sameIds};
 ghost use Rattle.basis.specs.Basis.{between, behind};
 ghost use Rattle.records_table.specs.Reading.{rowBody, readRow, rowAfter, tableOk};
-ghost use Rattle.records_table.specs.Inner.{Inside};
+ghost use Rattle.records_table.specs.Inner.{IdsInside};
 ghost use Rattle.records_table.specs.Reading.{findFrom, placeFrom, lookupOf, lookupPlace};
 
 // Where the parts of a row lie; the row ends where its key does.
@@ -110,7 +110,7 @@ fn row_at(s: &[u8], at: usize) -> RowParts
 
 // Whether a row's ids stand behind those of the last one, where they lie.
 fn ids_ascend(s: &[u8], last: RowAt, row: RowAt) -> bool
-    requires { ⌜ Inside (now s) last × Inside (now s) row ⌝ }
+    requires { ⌜ IdsInside (now s) last × IdsInside (now s) row ⌝ }
     ensures { λ r. ⌜ r ≡ ascends (between (now (s .entry)) (last .tid)) (between (now (s .entry)) (last .kid)) (between (now (s .entry)) (row .tid)) (between (now (s .entry)) (row .kid)) ⌝ }
 {
     let t = last.tid.from;
@@ -131,7 +131,7 @@ fn ids_ascend(s: &[u8], last: RowAt, row: RowAt) -> bool
 
 // The row at a place, if it stands behind the last one.
 fn row_after(s: &[u8], at: usize, last: RowAt) -> RowParts
-    requires { ⌜ Inside (now s) last ⌝ }
+    requires { ⌜ IdsInside (now s) last ⌝ }
     ensures { λ r. ⌜ r ≡ rowAfter (now (s .entry)) (between (now (s .entry)) (last .tid)) (between (now (s .entry)) (last .kid)) at ⌝ }
 {
     match row_at(s, at) {

@@ -1,5 +1,6 @@
--- Reading. Need not be believed: the laws fix it both ways (`text-reads`, `reads-text`), since it has one defect. The one reading of a
--- prefix's text, judged whole: a prefix, or none.
+-- Reading. Need not be believed: the laws fix it both ways (`text-reads`, `reads-text`), since it has one defect. A prefix's text, judged
+-- whole: a prefix, or none. From the top: four numbers up to 255, each with the mark behind it; the size, up to 32, with nothing behind it;
+-- and the bits of the address past the size are zero.
 use mathlib.Core.List.{List, [], _∷_}
 use Prim.Native.Nat.{ℕ, _+_, _-_, _*_, _%_, _^_}
 use lib.Dec.{ltb, eqb}
