@@ -7,6 +7,7 @@ use token::TokenAt;
 use token::TokenParts;
 ghost use Prim.Native.Nat.{_≤_};
 ghost use lib.ListN.{length};
+ghost use Rattle.basis.specs.Limits.{tokenMost};
 ghost use Rattle.verify_walk.specs.Ready.{Ready};
 ghost use Rattle.outcome.specs.Decisions.{Carried};
 ghost use Rattle.narrow.specs.Narrowing.{tagNarrowed, bytesNarrowed, textNarrowed, narrowOf};
@@ -27,7 +28,7 @@ fn narrow_with(key: &[u8], s: &[u8], parent: TokenAt, caveat: &[u8], room: &mut 
 }
 
 fn narrow_bytes(table: &[u8], s: &[u8], caveat: &[u8], room: &mut [u8]) -> Outcome
-    requires { ⌜ length (now s) ≤ 4096 ⌝ }
+    requires { ⌜ length (now s) ≤ tokenMost ⌝ }
     ensures { λ r. ⌜ Carried (bytesNarrowed (now (table .entry)) (now (s .entry)) (now (caveat .entry))) (now (room .entry)) r (now (room .exit)) ⌝ }
 {
     match token::read_token(s) {

@@ -6,6 +6,7 @@ use token::TokenAt;
 use token_caveat_values::CaveatParts;
 ghost use mathlib.Core.Path.{_≡_};
 ghost use lib.ListN.{length};
+ghost use Rattle.basis.specs.Limits.{keyLength};
 ghost use Rattle.token_caveat.specs.Reading.{caveatOf};
 ghost use Rattle.outcome.specs.Decisions.{Carried};
 ghost use Rattle.narrow_child.specs.Child.{childOf, caveatAdded};
@@ -20,7 +21,7 @@ fn write_child(
     caveat: &[u8],
     room: &mut [u8],
 ) -> Outcome
-    requires { ⌜ length (now key) ≡ 32 ⌝ }
+    requires { ⌜ length (now key) ≡ keyLength ⌝ }
     ensures { λ r. ⌜ Carried (childOf (now (key .entry)) link (now (s .entry)) parent (now (caveat .entry))) (now (room .entry)) r (now (room .exit)) ⌝ }
 {
     let count = parent.caveats.count;
@@ -62,7 +63,7 @@ pub fn add_caveat(
     caveat: &[u8],
     room: &mut [u8],
 ) -> Outcome
-    requires { ⌜ length (now key) ≡ 32 ⌝ }
+    requires { ⌜ length (now key) ≡ keyLength ⌝ }
     ensures { λ r. ⌜ Carried (caveatAdded (now (key .entry)) link (now (s .entry)) parent (now (caveat .entry)) (caveatOf (now (caveat .entry)))) (now (room .entry)) r (now (room .exit)) ⌝ }
 {
     match token_caveat::read_caveat(caveat) {

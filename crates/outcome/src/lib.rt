@@ -4,6 +4,7 @@ use text_writing::Encoded;
 ghost use mathlib.Core.Path.{_≡_};
 ghost use Prim.Native.Nat.{_≤_};
 ghost use lib.ListN.{length};
+ghost use Rattle.basis.specs.Limits.{tokenMost};
 ghost use Rattle.text_writing.specs.Base64url.{base64url};
 ghost use Rattle.outcome.specs.Decisions.{Carried, granted, refusal};
 
@@ -22,7 +23,7 @@ pub fn refusal(answer: u32) -> Outcome
 
 // The text of a token's bytes, if the room holds it.
 pub fn write_text(bytes: &[u8], room: &mut [u8]) -> Outcome
-    requires { ⌜ length (now bytes) ≤ 4096 ⌝ }
+    requires { ⌜ length (now bytes) ≤ tokenMost ⌝ }
     ensures { λ r. ⌜ Carried (granted (base64url (now (bytes .entry)))) (now (room .entry)) r (now (room .exit)) ⌝ }
 {
     match text_writing::encode(bytes, room) {

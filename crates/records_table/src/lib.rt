@@ -8,6 +8,7 @@ use records::Run;
 ghost use mathlib.Core.Path.{_≡_};
 ghost use Rattle.records_table.specs.Order.{beforeOf, ascends, sameIds};
 ghost use Rattle.basis.specs.Basis.{between, behind};
+ghost use Rattle.basis.specs.Limits.{rowsMost};
 ghost use Rattle.records_table.specs.Reading.{rowBody, readRow, rowAfter, tableOk};
 ghost use Rattle.records_table.specs.Inner.{IdsInside};
 ghost use Rattle.records_table.specs.Reading.{findFrom, placeFrom, lookupOf, lookupPlace};
@@ -184,8 +185,8 @@ fn same_ids(t: &[u8], k: &[u8], tid: &[u8], kid: &[u8]) -> bool
 
 // The key of the row with these ids, as it lies in a table that was judged before.
 pub fn find<'a>(table: &'a [u8], tid: &[u8], kid: &[u8]) -> &'a [u8]
-    ensures { λ r. ⌜ now r ≡ findFrom 64 (now (table .entry)) (now (tid .entry)) (now (kid .entry)) 0 ⌝ }
-    ensures { λ r. ⌜ r .ptr ≡ behind (table .entry .ptr) (placeFrom 64 (now (table .entry)) (now (tid .entry)) (now (kid .entry)) 0) ⌝ }
+    ensures { λ r. ⌜ now r ≡ findFrom rowsMost (now (table .entry)) (now (tid .entry)) (now (kid .entry)) 0 ⌝ }
+    ensures { λ r. ⌜ r .ptr ≡ behind (table .entry .ptr) (placeFrom rowsMost (now (table .entry)) (now (tid .entry)) (now (kid .entry)) 0) ⌝ }
 {
     let mut rows: u32 = limits::ROWS_MOST;
     let mut p: usize = 0;

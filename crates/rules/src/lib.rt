@@ -3,8 +3,7 @@ use records_request::RequestAt;
 use token_caveat_values::CaveatAt;
 use token_scope::ScopeAt;
 ghost use mathlib.Core.Path.{_≡_};
-ghost use Rattle.rules.specs.Judging.{scopeJudged};
-ghost use Rattle.rules.specs.Judging.{caveatHeld, failingOf, caveatJudged};
+ghost use Rattle.rules.specs.Judging.{scopeJudged, caveatHeld, failingOf, caveatJudged};
 
 // 0, or the number of the first of method, path and bytes that fails.
 pub fn scope_answer(s: &[u8], scope: ScopeAt, body: &[u8], request: RequestAt) -> u32

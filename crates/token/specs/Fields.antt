@@ -15,7 +15,7 @@ use Rattle.cbor_values.specs.declared.Item.the-variants.{End, Bad}
 use Rattle.cbor_keys.specs.Fields.{nameAt}
 use Rattle.cbor_keys.specs.Steps.{afterItem, afterCount}
 use Rattle.cbor_keys.specs.ReadMap.{Field, required, contentEnd, readMap}
-use Rattle.cbor_keys.specs.declared.Names.the-variants.{Token}
+use Rattle.cbor_keys.specs.declared.Names.the-variants.{Token as TokenKeys}
 use Rattle.token_scope.specs.Fields.{readScope}
 use Rattle.token_caveat.specs.Fields.{readCaveat}
 use Rattle.token_back.specs.Values.{tagAt, versionAt}
@@ -47,4 +47,4 @@ abbrev pub wholeThen : List ℕ → ℕ → Item
 wholeThen s to = pick (eqb to (length s)) (End to) (Bad parseCbor to)
 
 abbrev pub readToken : List ℕ → Item
-readToken s = afterItem Bad (wholeThen s) (readMap Token (tokenFields s) s 0)
+readToken s = afterItem Bad (wholeThen s) (readMap TokenKeys (tokenFields s) s 0)

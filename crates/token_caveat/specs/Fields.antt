@@ -16,7 +16,7 @@ use Rattle.cbor_keys.specs.Reading.{keyAt}
 use Rattle.cbor_keys.specs.Fields.{nameAt}
 use Rattle.cbor_keys.specs.Steps.{afterKey}
 use Rattle.cbor_keys.specs.ReadMap.{Field, required, contentEnd, countEnd, keyEnd, readMap}
-use Rattle.cbor_keys.specs.declared.Names.the-variants.{Caveat, T}
+use Rattle.cbor_keys.specs.declared.Names.the-variants.{Caveat as CaveatKeys, T}
 use Rattle.token_scope.specs.Fields.{readMethods}
 use Rattle.token_caveat_values.specs.Fields.{readDigest, readCidr, readFlag, readRate, readCustom}
 
@@ -48,4 +48,4 @@ caveatFields s = required (λ at. keyEnd (keyAt T s at)) ∷ record { required =
 
 -- from the caveat's first byte on
 abbrev pub readCaveat : List ℕ → Item
-readCaveat s = readMap Caveat (caveatFields s) s 0
+readCaveat s = readMap CaveatKeys (caveatFields s) s 0

@@ -15,7 +15,7 @@ use Rattle.cbor_values.specs.declared.Item.the-variants.{End, Bad}
 use Rattle.cbor_keys.specs.Fields.{nameAt}
 use Rattle.cbor_keys.specs.Steps.{afterContent}
 use Rattle.cbor_keys.specs.ReadMap.{Field, required, contentEnd, countEnd, readMap}
-use Rattle.cbor_keys.specs.declared.Names.the-variants.{Rate, Custom}
+use Rattle.cbor_keys.specs.declared.Names.the-variants.{Rate as RateKeys, Custom as CustomKeys}
 use Rattle.token_cidr.specs.Reading.{cidrOf}
 use Rattle.token_cidr.specs.declared.Cidr.{Cidr}
 use Rattle.token_cidr.specs.declared.Cidr.the-variants.{Of as CidrOf, Bad as NoCidr}
@@ -41,11 +41,11 @@ abbrev pub rateFields : List ℕ → List Field
 rateFields s = required (λ at. countEnd (numberUpTo rateMost s at)) ∷ required (λ at. countEnd (numberUpTo rateMost s at)) ∷ []
 
 abbrev pub readRate : List ℕ → ℕ → Item
-readRate s = readMap Rate (rateFields s) s
+readRate s = readMap RateKeys (rateFields s) s
 
 -- "Custom value: ns, cbor, name", the value "four deep at most"
 abbrev pub customFields : List ℕ → List Field
 customFields s = required (λ at. contentEnd (nameAt s at)) ∷ required (valueOf depthMost s) ∷ required (λ at. contentEnd (nameAt s at)) ∷ []
 
 abbrev pub readCustom : List ℕ → ℕ → Item
-readCustom s = readMap Custom (customFields s) s
+readCustom s = readMap CustomKeys (customFields s) s

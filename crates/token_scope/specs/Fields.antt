@@ -11,7 +11,7 @@ use Rattle.cbor_values.specs.declared.Item.{Item}
 use Rattle.cbor_values.specs.declared.Item.the-variants.{Bad}
 use Rattle.cbor_keys.specs.Steps.{afterCount}
 use Rattle.cbor_keys.specs.ReadMap.{Field, required, optional, contentEnd, countEnd, readMap}
-use Rattle.cbor_keys.specs.declared.Names.the-variants.{Scope}
+use Rattle.cbor_keys.specs.declared.Names.the-variants.{Scope as ScopeKeys}
 
 -- 01: "Method lists: 0 to 16 of 1 to 16 letters A-Z"; "Array count over its limit ..: parse.bounds". The array's head and its count; then each
 -- method, a string
@@ -29,4 +29,4 @@ scopeFields s =
     ∷ []
 
 abbrev pub readScope : List ℕ → ℕ → Item
-readScope s = readMap Scope (scopeFields s) s
+readScope s = readMap ScopeKeys (scopeFields s) s

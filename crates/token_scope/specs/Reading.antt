@@ -11,7 +11,7 @@ use Rattle.cbor_strings.specs.declared.Class.the-variants.{Path}
 use Rattle.cbor_keys.specs.Reading.{keyAt, wantedKey}
 use Rattle.cbor_keys.specs.Fields.{numberField}
 use Rattle.cbor_keys.specs.Steps.{afterItem, afterContent, afterCount, afterKey}
-use Rattle.cbor_keys.specs.declared.Names.the-variants.{Scope}
+use Rattle.cbor_keys.specs.declared.Names.the-variants.{Scope as ScopeKeys}
 use Rattle.token_scope.specs.Methods.{methodsOf, afterMethods}
 use Rattle.basis.specs.declared.Span.{Span}
 use Rattle.basis.specs.declared.Part.{Part}
@@ -38,13 +38,13 @@ anotherThen at index next = Bad parseCbor at
 
 unfoldable pub maxBytesThen : List ℕ → Part → ListAt → ℕ → ℕ → ℕ → ScopeParts
 maxBytesThen s prefix methods left n next =
-    pick (eqb left 1) (Of (threeParts prefix methods (AtMost n)) next) (afterKey Bad (anotherThen next) (keyAt Scope s next))
+    pick (eqb left 1) (Of (threeParts prefix methods (AtMost n)) next) (afterKey Bad (anotherThen next) (keyAt ScopeKeys s next))
 
 -- behind the methods, where `left` entries are left
 unfoldable pub limitThen : List ℕ → Part → ListAt → ℕ → ScopeParts
 limitThen s prefix methods left =
     pick (eqb left 0) (Of (threeParts prefix methods NoLimit) (methods .span .to))
-    (afterCount Bad (maxBytesThen s prefix methods left) (numberField Scope s (methods .span .to) scopeMaxBytes numberMost))
+    (afterCount Bad (maxBytesThen s prefix methods left) (numberField ScopeKeys s (methods .span .to) scopeMaxBytes numberMost))
 
 abbrev pub methodsNext : List ℕ → Part → ℕ → ListAt → ScopeParts
 methodsNext s prefix left methods = limitThen s prefix methods left
@@ -56,7 +56,7 @@ methodsThen s prefix left at = afterMethods Bad (methodsNext s prefix left) (met
 -- behind the prefix, in a map of n entries at `at`
 unfoldable pub prefixNext : List ℕ → ℕ → ℕ → Span → ScopeParts
 prefixNext s at n prefix =
-    pick (ltb n 2) (Bad parseCbor at) (afterItem Bad (methodsThen s (At prefix) (n - 2)) (wantedKey Scope s (prefix .to) scopeMethods))
+    pick (ltb n 2) (Bad parseCbor at) (afterItem Bad (methodsThen s (At prefix) (n - 2)) (wantedKey ScopeKeys s (prefix .to) scopeMethods))
 
 unfoldable pub prefixThen : List ℕ → ℕ → ℕ → ℕ → ScopeParts
 prefixThen s at n next = afterContent Bad (prefixNext s at n) (readString s next Path 1 pathMost)
@@ -66,7 +66,7 @@ firstThen s at n p index next =
     pick (eqb index scopePrefix) (prefixThen s at n next) (pick (eqb index scopeMethods) (methodsThen s Absent (n - 1) next) (Bad parseCbor p))
 
 unfoldable pub entriesThen : List ℕ → ℕ → ℕ → ℕ → ScopeParts
-entriesThen s at n p = afterKey Bad (firstThen s at n p) (keyAt Scope s p)
+entriesThen s at n p = afterKey Bad (firstThen s at n p) (keyAt ScopeKeys s p)
 
 unfoldable pub scopeOf : List ℕ → ℕ → ScopeParts
 scopeOf s at = afterCount Bad (entriesThen s at) (mapWith 1 3 s at)

@@ -8,10 +8,11 @@ use token::TokenParts;
 ghost use mathlib.Core.Path.{_≡_};
 ghost use Prim.Native.Nat.{_≤_};
 ghost use lib.ListN.{length};
+ghost use Rattle.basis.specs.Limits.{tokenMost};
 ghost use Rattle.verify.specs.Verifying.{bytesJudged, textJudged, verifyOf};
 
 fn judge_bytes(table: &[u8], s: &[u8], body: &[u8], request: RequestAt) -> u32
-    requires { ⌜ length (now s) ≤ 4096 ⌝ }
+    requires { ⌜ length (now s) ≤ tokenMost ⌝ }
     ensures { λ r. ⌜ r ≡ bytesJudged (now (table .entry)) (now (s .entry)) (now (body .entry)) request ⌝ }
 {
     match token::read_token(s) {
