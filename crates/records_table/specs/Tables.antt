@@ -45,7 +45,7 @@ unfoldable pub hasRow : List Row → List ℕ → List ℕ → Bool
 hasRow [] tid kid = false
 hasRow (r ∷ rs) tid kid = pick (sameIds (r .tid) (r .kid) tid kid) true (hasRow rs tid kid)
 
--- the key of the row with these ids; nothing where there is no such row
+-- "the 32 key bytes" of the row with these ids; "where the table is bad or has no such row, an empty part": so no bytes
 unfoldable pub keyIn : List Row → List ℕ → List ℕ → List ℕ
 keyIn [] tid kid = []
 keyIn (r ∷ rs) tid kid = pick (sameIds (r .tid) (r .kid) tid kid) (r .key) (keyIn rs tid kid)
