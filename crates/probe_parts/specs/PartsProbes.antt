@@ -13,6 +13,7 @@ use Rattle.token_scope.specs.declared.Limit.{Limit}
 use Rattle.token_scope.specs.declared.Limit.the-variants.{Absent as NoLimit, Of as AtMost}
 use Rattle.token_scope.specs.declared.ScopeParts.{ScopeParts}
 use Rattle.token_scope.specs.declared.ScopeParts.the-variants.{Of as ScopeFound, Bad as NoScope}
+use Rattle.cbor_keys.specs.Indexes.{tExp, tNbf, tAud, tMethod, tPathPrefix, tIpCidr, tBytesLe, tRate, tTenant, tAmnesia, tGovPolicyDigest, tCustom}
 use Rattle.token_caveat_values.specs.declared.CaveatAt.{CaveatAt}
 use Rattle.token_caveat_values.specs.declared.CaveatAt.the-variants.{Exp, Nbf, Aud, Method, PathPrefix, IpCidr, BytesLe, Rate, Tenant, Amnesia, GovPolicyDigest, Custom}
 use Rattle.token_caveat_values.specs.declared.CaveatParts.{CaveatParts}
@@ -45,21 +46,24 @@ abbrev pub bitOf : Bool → ℕ
 bitOf true = 1
 bitOf false = 0
 
--- what a caveat of a length demands; which it is, is told by the place of its t among the names
+-- what a caveat of a length demands: which it is, by the place of its t among the names, and up to three numbers
+abbrev pub demandOf : ℕ → ℕ → ℕ → ℕ → ℕ → Parts
+demandOf t a b c next = told (t ∷ a ∷ b ∷ c ∷ 0 ∷ 0 ∷ 0 ∷ 0 ∷ 0 ∷ next ∷ [])
+
 abbrev pub demandProbe : CaveatAt → ℕ → Parts
-demandProbe (Exp n) next = told (0 ∷ n ∷ 0 ∷ 0 ∷ 0 ∷ 0 ∷ 0 ∷ 0 ∷ 0 ∷ next ∷ [])
-demandProbe (Nbf n) next = told (1 ∷ n ∷ 0 ∷ 0 ∷ 0 ∷ 0 ∷ 0 ∷ 0 ∷ 0 ∷ next ∷ [])
-demandProbe (Aud p) next = told (2 ∷ p .from ∷ p .to ∷ 0 ∷ 0 ∷ 0 ∷ 0 ∷ 0 ∷ 0 ∷ next ∷ [])
-demandProbe (Method m) next = told (3 ∷ m .count ∷ m .span .from ∷ m .span .to ∷ 0 ∷ 0 ∷ 0 ∷ 0 ∷ 0 ∷ next ∷ [])
-demandProbe (PathPrefix p) next = told (4 ∷ p .from ∷ p .to ∷ 0 ∷ 0 ∷ 0 ∷ 0 ∷ 0 ∷ 0 ∷ next ∷ [])
-demandProbe (IpCidr w) next = told (5 ∷ addressOf (w .a) (w .b) (w .c) (w .d) ∷ w .size ∷ 0 ∷ 0 ∷ 0 ∷ 0 ∷ 0 ∷ 0 ∷ next ∷ [])
-demandProbe (BytesLe n) next = told (6 ∷ n ∷ 0 ∷ 0 ∷ 0 ∷ 0 ∷ 0 ∷ 0 ∷ 0 ∷ next ∷ [])
-demandProbe (Rate per-s burst) next = told (7 ∷ per-s ∷ burst ∷ 0 ∷ 0 ∷ 0 ∷ 0 ∷ 0 ∷ 0 ∷ next ∷ [])
-demandProbe (Tenant p) next = told (8 ∷ p .from ∷ p .to ∷ 0 ∷ 0 ∷ 0 ∷ 0 ∷ 0 ∷ 0 ∷ next ∷ [])
-demandProbe (Amnesia on) next = told (9 ∷ bitOf on ∷ 0 ∷ 0 ∷ 0 ∷ 0 ∷ 0 ∷ 0 ∷ 0 ∷ next ∷ [])
-demandProbe (GovPolicyDigest p) next = told (10 ∷ p .from ∷ p .to ∷ 0 ∷ 0 ∷ 0 ∷ 0 ∷ 0 ∷ 0 ∷ next ∷ [])
+demandProbe (Exp n) next = demandOf tExp n 0 0 next
+demandProbe (Nbf n) next = demandOf tNbf n 0 0 next
+demandProbe (Aud p) next = demandOf tAud (p .from) (p .to) 0 next
+demandProbe (Method m) next = demandOf tMethod (m .count) (m .span .from) (m .span .to) next
+demandProbe (PathPrefix p) next = demandOf tPathPrefix (p .from) (p .to) 0 next
+demandProbe (IpCidr w) next = demandOf tIpCidr (addressOf (w .a) (w .b) (w .c) (w .d)) (w .size) 0 next
+demandProbe (BytesLe n) next = demandOf tBytesLe n 0 0 next
+demandProbe (Rate per-s burst) next = demandOf tRate per-s burst 0 next
+demandProbe (Tenant p) next = demandOf tTenant (p .from) (p .to) 0 next
+demandProbe (Amnesia on) next = demandOf tAmnesia (bitOf on) 0 0 next
+demandProbe (GovPolicyDigest p) next = demandOf tGovPolicyDigest (p .from) (p .to) 0 next
 demandProbe (Custom c) next =
-    told (11 ∷ c .ns .from ∷ c .ns .to ∷ c .value .from ∷ c .value .to ∷ c .name .from ∷ c .name .to ∷ 0 ∷ 0 ∷ next ∷ [])
+    told (tCustom ∷ c .ns .from ∷ c .ns .to ∷ c .value .from ∷ c .value .to ∷ c .name .from ∷ c .name .to ∷ 0 ∷ 0 ∷ next ∷ [])
 
 abbrev pub caveatProbe : CaveatParts → Parts
 caveatProbe (NoCaveat kind at) = refused kind at

@@ -1,10 +1,12 @@
 // Scopes, caveats and tokens as the host tests read them. Nothing of the product stands on it.
 use basis::Part;
 use basis::Span;
+use cbor_keys::index;
 use cbor_values::ListAt;
 use token::TokenParts;
 use token_caveat_values::CaveatAt;
 use token_caveat_values::CaveatParts;
+use token_caveat_values::CustomAt;
 use token_scope::Limit;
 use token_scope::ScopeParts;
 ghost use mathlib.Core.Path.{_≡_};
@@ -15,7 +17,8 @@ ghost use Rattle.token_cidr.specs.Prefixes.{addressOf};
 ghost use Rattle.token_scope.specs.Reading.{scopeOf};
 ghost use Rattle.token_caveat.specs.Reading.{caveatOf};
 ghost use Rattle.token.specs.Reading.{tokenOf};
-ghost use Rattle.probe_parts.specs.PartsProbes.{refused, limitProbe, scopeProbe, bitOf, demandProbe, caveatProbe, tokenProbe};
+ghost use Rattle.probe_parts.specs.PartsProbes.{refused, limitProbe, scopeProbe, bitOf, demandOf, demandProbe, caveatProbe, tokenProbe};
+ghost use Rattle.token_caveat_values.specs.declared.CaveatAt.the-variants.{Method, Custom};
 
 // An answer as numbers: a host cannot take an enum apart by Rattle's layout.
 #[repr(C)]
@@ -104,136 +107,77 @@ fn address_of(a: u32, b: u32, c: u32, d: u32) -> u64
     ((a as u64 * 256 + b as u64) * 256 + c as u64) * 256 + d as u64
 }
 
+// Which caveat it is, up to three numbers of it, and its length.
+fn demand_of(t: u32, a: u64, b: u64, c: u64, next: usize) -> Parts
+    ensures { λ r. ⌜ r ≡ demandOf t a b c next ⌝ }
+{
+    Parts {
+        kind: 0,
+        numbers: [t as u64, a, b, c, 0, 0, 0, 0, 0, next as u64],
+    }
+}
+
+fn span_demand(t: u32, span: Span, next: usize) -> Parts
+    ensures { λ r. ⌜ r ≡ demandOf t (span .from) (span .to) 0 next ⌝ }
+{
+    demand_of(t, span.from as u64, span.to as u64, 0, next)
+}
+
+fn methods_demand(methods: ListAt, next: usize) -> Parts
+    ensures { λ r. ⌜ r ≡ demandProbe (Method methods) next ⌝ }
+{
+    let span = methods.span;
+    demand_of(
+        index::T_METHOD,
+        methods.count,
+        span.from as u64,
+        span.to as u64,
+        next,
+    )
+}
+
+fn custom_demand(custom: CustomAt, next: usize) -> Parts
+    ensures { λ r. ⌜ r ≡ demandProbe (Custom custom) next ⌝ }
+{
+    Parts {
+        kind: 0,
+        numbers: [
+            index::T_CUSTOM as u64,
+            custom.ns.from as u64,
+            custom.ns.to as u64,
+            custom.value.from as u64,
+            custom.value.to as u64,
+            custom.name.from as u64,
+            custom.name.to as u64,
+            0,
+            0,
+            next as u64,
+        ],
+    }
+}
+
 // What a caveat of a length demands.
 fn demand_probe(caveat: CaveatAt, next: usize) -> Parts
     ensures { λ r. ⌜ r ≡ demandProbe caveat next ⌝ }
 {
     match caveat {
-        CaveatAt::Exp { n } => Parts {
-            kind: 0,
-            numbers: [0, n, 0, 0, 0, 0, 0, 0, 0, next as u64],
-        },
-        CaveatAt::Nbf { n } => Parts {
-            kind: 0,
-            numbers: [1, n, 0, 0, 0, 0, 0, 0, 0, next as u64],
-        },
-        CaveatAt::Aud { span } => Parts {
-            kind: 0,
-            numbers: [
-                2,
-                span.from as u64,
-                span.to as u64,
-                0,
-                0,
-                0,
-                0,
-                0,
-                0,
-                next as u64,
-            ],
-        },
-        CaveatAt::Method { methods } => Parts {
-            kind: 0,
-            numbers: [
-                3,
-                methods.count,
-                methods.span.from as u64,
-                methods.span.to as u64,
-                0,
-                0,
-                0,
-                0,
-                0,
-                next as u64,
-            ],
-        },
-        CaveatAt::PathPrefix { span } => Parts {
-            kind: 0,
-            numbers: [
-                4,
-                span.from as u64,
-                span.to as u64,
-                0,
-                0,
-                0,
-                0,
-                0,
-                0,
-                next as u64,
-            ],
-        },
-        CaveatAt::IpCidr { network } => Parts {
-            kind: 0,
-            numbers: [
-                5,
-                address_of(network.a, network.b, network.c, network.d),
-                network.size as u64,
-                0,
-                0,
-                0,
-                0,
-                0,
-                0,
-                next as u64,
-            ],
-        },
-        CaveatAt::BytesLe { n } => Parts {
-            kind: 0,
-            numbers: [6, n, 0, 0, 0, 0, 0, 0, 0, next as u64],
-        },
-        CaveatAt::Rate { per_s, burst } => Parts {
-            kind: 0,
-            numbers: [7, per_s, burst, 0, 0, 0, 0, 0, 0, next as u64],
-        },
-        CaveatAt::Tenant { span } => Parts {
-            kind: 0,
-            numbers: [
-                8,
-                span.from as u64,
-                span.to as u64,
-                0,
-                0,
-                0,
-                0,
-                0,
-                0,
-                next as u64,
-            ],
-        },
-        CaveatAt::Amnesia { on } => Parts {
-            kind: 0,
-            numbers: [9, bit_of(on), 0, 0, 0, 0, 0, 0, 0, next as u64],
-        },
-        CaveatAt::GovPolicyDigest { span } => Parts {
-            kind: 0,
-            numbers: [
-                10,
-                span.from as u64,
-                span.to as u64,
-                0,
-                0,
-                0,
-                0,
-                0,
-                0,
-                next as u64,
-            ],
-        },
-        CaveatAt::Custom { custom } => Parts {
-            kind: 0,
-            numbers: [
-                11,
-                custom.ns.from as u64,
-                custom.ns.to as u64,
-                custom.value.from as u64,
-                custom.value.to as u64,
-                custom.name.from as u64,
-                custom.name.to as u64,
-                0,
-                0,
-                next as u64,
-            ],
-        },
+        CaveatAt::Exp { n } => demand_of(index::T_EXP, n, 0, 0, next),
+        CaveatAt::Nbf { n } => demand_of(index::T_NBF, n, 0, 0, next),
+        CaveatAt::Aud { span } => span_demand(index::T_AUD, span, next),
+        CaveatAt::Method { methods } => methods_demand(methods, next),
+        CaveatAt::PathPrefix { span } => span_demand(index::T_PATH_PREFIX, span, next),
+        CaveatAt::IpCidr { network } => {
+            let address = address_of(network.a, network.b, network.c, network.d);
+            demand_of(index::T_IP_CIDR, address, network.size as u64, 0, next)
+        }
+        CaveatAt::BytesLe { n } => demand_of(index::T_BYTES_LE, n, 0, 0, next),
+        CaveatAt::Rate { per_s, burst } => demand_of(index::T_RATE, per_s, burst, 0, next),
+        CaveatAt::Tenant { span } => span_demand(index::T_TENANT, span, next),
+        CaveatAt::Amnesia { on } => demand_of(index::T_AMNESIA, bit_of(on), 0, 0, next),
+        CaveatAt::GovPolicyDigest { span } => {
+            span_demand(index::T_GOV_POLICY_DIGEST, span, next)
+        }
+        CaveatAt::Custom { custom } => custom_demand(custom, next),
     }
 }
 
