@@ -87,11 +87,6 @@ none-next names s map k i before at = by (keyAt names s at)
     by (NoKey kind a) = refl
     by (Known index next) = by-index index next (ltb index i)
 
--- steps that agree everywhere agree
-pub item-same : {f g : ℕ → Item} → ((next : ℕ) → f next ≡ g next) → (x : Item) → afterItem Bad f x ≡ afterItem Bad g x
-item-same h (Bad kind at) = refl
-item-same h (End next) = h next
-
 -- where a reading ends, `end`, told step by step: of a reading that goes on behind an item, a content or a number, alone or behind its key
 module _ {A : Type 0} (end : A → Item) (bad : ℕ → ℕ → A) (is-bad : (kind at : ℕ) → end (bad kind at) ≡ Bad kind at) where
   pub item-end : {rest : ℕ → A} (told : ℕ → Item) → ((next : ℕ) → end (rest next) ≡ told next) → (x : Item) → end (afterItem bad rest x) ≡ afterItem Bad told x

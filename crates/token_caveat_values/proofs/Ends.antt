@@ -27,15 +27,17 @@ use Rattle.token_scope.proofs.ScopeMap.{methods-list}
 use Rattle.token_caveat_values.specs.Fields.{readDigest, cidrEnd, readCidr, readFlag}
 use Rattle.token_caveat_values.specs.Values.{partsEnd, numberThen, numberValue, textThen, textValue, digestBad, digestThen, digestValue, methodThen, methodValue, cidrBy, cidrThen, cidrValue, flagThen, amnesiaValue}
 use Rattle.token_caveat_values.specs.declared.CaveatAt.{CaveatAt}
+use Rattle.token_caveat_values.specs.declared.CaveatParts.{CaveatParts}
 use Rattle.token_caveat_values.specs.declared.CaveatParts.the-variants.{Bad}
+
+-- a value that is a number: any number's, and a flag's
+of-count : (rest : ℕ → ℕ → CaveatParts) → ((n next : ℕ) → partsEnd (rest n next) ≡ End next) → (x : Count) → partsEnd (afterCount Bad rest x) ≡ countEnd x
+of-count rest h (NoCount kind a) = refl
+of-count rest h (Counted n next) = h n next
 
 pub number-ends : (make : ℕ → CaveatAt) (s : List ℕ) (at : ℕ) → partsEnd (numberValue make s at) ≡ countEnd (numberUpTo 0xffffffffffffffff s at)
 unfolding numberValue
-number-ends make s at = by (numberUpTo 0xffffffffffffffff s at)
-  where
-    by : (x : Count) → partsEnd (afterCount Bad (numberThen make) x) ≡ countEnd x
-    by (NoCount kind a) = refl
-    by (Counted n next) = refl
+number-ends make s at = of-count (numberThen make) (λ n next. refl) (numberUpTo 0xffffffffffffffff s at)
 
 pub text-ends : (make : Span → CaveatAt) (class : Class) (high : ℕ) (s : List ℕ) (at : ℕ)
     → partsEnd (textValue make class high s at) ≡ contentEnd (readString s at class 1 high)
@@ -76,8 +78,4 @@ cidr-ends s at = by (readRun s at textString 0 0xffffffffffffffff)
 
 pub flag-ends : (s : List ℕ) (at : ℕ) → partsEnd (amnesiaValue s at) ≡ readFlag s at
 unfolding amnesiaValue
-flag-ends s at = by (readCount s at simple 20 21 parseCbor)
-  where
-    by : (x : Count) → partsEnd (afterCount Bad flagThen x) ≡ countEnd x
-    by (NoCount kind a) = refl
-    by (Counted n next) = refl
+flag-ends s at = of-count flagThen (λ n next. refl) (readCount s at simple 20 21 parseCbor)
