@@ -1,3 +1,4 @@
 pub mod Turning
 pub mod Rounding
+pub mod Picking
 pub mod OneAnswer

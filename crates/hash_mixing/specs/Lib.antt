@@ -1,1 +1,2 @@
 pub mod Compression
+pub mod Order

@@ -2,7 +2,8 @@
 // one by one and written all at once, so that the compiler keeps them as single words throughout.
 ghost use mathlib.Core.Path.{_≡_};
 ghost use Prim.Native.Nat.{_<_};
-ghost use Rattle.hash_mixing.specs.Compression.{plus, turn, halfOf, mixOf, columnsOf, diagonalsOf, movedOf, roundsOf, compressOf};
+ghost use Rattle.hash_mixing.specs.Compression.{plus, turn, halfOf, mixOf, columnsOf, diagonalsOf, roundsOf, compressOf};
+ghost use Rattle.hash_mixing.specs.Order.{InBlock, pickedOf};
 
 // Four words of the state on their way through the mixing.
 struct Quad {
@@ -47,13 +48,14 @@ fn mix(a: u32, b: u32, c: u32, d: u32, x: u32, y: u32) -> Quad
     half(q.a, q.b, q.c, q.d, y, 8, 7)
 }
 
-fn columns(v: [u32; 16], m: [u32; 16]) -> [u32; 16]
-    ensures { λ r. ⌜ r ≡ columnsOf v m ⌝ }
+fn columns(v: [u32; 16], m: [u32; 16], o: [usize; 16]) -> [u32; 16]
+    requires { ⌜ InBlock o ⌝ }
+    ensures { λ r. ⌜ r ≡ columnsOf v (pickedOf m o) ⌝ }
 {
-    let p = mix(v[0], v[4], v[8], v[12], m[0], m[1]);
-    let q = mix(v[1], v[5], v[9], v[13], m[2], m[3]);
-    let r = mix(v[2], v[6], v[10], v[14], m[4], m[5]);
-    let s = mix(v[3], v[7], v[11], v[15], m[6], m[7]);
+    let p = mix(v[0], v[4], v[8], v[12], m[o[0]], m[o[1]]);
+    let q = mix(v[1], v[5], v[9], v[13], m[o[2]], m[o[3]]);
+    let r = mix(v[2], v[6], v[10], v[14], m[o[4]], m[o[5]]);
+    let s = mix(v[3], v[7], v[11], v[15], m[o[6]], m[o[7]]);
     [
         p.a,
         q.a,
@@ -74,13 +76,14 @@ fn columns(v: [u32; 16], m: [u32; 16]) -> [u32; 16]
     ]
 }
 
-fn diagonals(v: [u32; 16], m: [u32; 16]) -> [u32; 16]
-    ensures { λ r. ⌜ r ≡ diagonalsOf v m ⌝ }
+fn diagonals(v: [u32; 16], m: [u32; 16], o: [usize; 16]) -> [u32; 16]
+    requires { ⌜ InBlock o ⌝ }
+    ensures { λ r. ⌜ r ≡ diagonalsOf v (pickedOf m o) ⌝ }
 {
-    let p = mix(v[0], v[5], v[10], v[15], m[8], m[9]);
-    let q = mix(v[1], v[6], v[11], v[12], m[10], m[11]);
-    let r = mix(v[2], v[7], v[8], v[13], m[12], m[13]);
-    let s = mix(v[3], v[4], v[9], v[14], m[14], m[15]);
+    let p = mix(v[0], v[5], v[10], v[15], m[o[8]], m[o[9]]);
+    let q = mix(v[1], v[6], v[11], v[12], m[o[10]], m[o[11]]);
+    let r = mix(v[2], v[7], v[8], v[13], m[o[12]], m[o[13]]);
+    let s = mix(v[3], v[4], v[9], v[14], m[o[14]], m[o[15]]);
     [
         p.a,
         q.a,
@@ -101,53 +104,32 @@ fn diagonals(v: [u32; 16], m: [u32; 16]) -> [u32; 16]
     ]
 }
 
-fn moved(m: [u32; 16]) -> [u32; 16]
-    ensures { λ r. ⌜ r ≡ movedOf m ⌝ }
-{
-    [
-        m[2],
-        m[6],
-        m[3],
-        m[10],
-        m[7],
-        m[0],
-        m[4],
-        m[13],
-        m[1],
-        m[11],
-        m[12],
-        m[5],
-        m[9],
-        m[14],
-        m[15],
-        m[8],
-    ]
-}
-
-// Written out, not a loop: only then do the moved words cost nothing once compiled.
+// Each round picks its words from the block by an order of its own, so that no word ever moves. Written out, not a
+// loop: only then is each place a constant once compiled.
 fn seven_rounds(v: [u32; 16], m: [u32; 16]) -> [u32; 16]
     ensures { λ r. ⌜ r ≡ roundsOf 7 v m ⌝ }
 {
-    let c1 = columns(v, m);
-    let v1 = diagonals(c1, m);
-    let m1 = moved(m);
-    let c2 = columns(v1, m1);
-    let v2 = diagonals(c2, m1);
-    let m2 = moved(m1);
-    let c3 = columns(v2, m2);
-    let v3 = diagonals(c3, m2);
-    let m3 = moved(m2);
-    let c4 = columns(v3, m3);
-    let v4 = diagonals(c4, m3);
-    let m4 = moved(m3);
-    let c5 = columns(v4, m4);
-    let v5 = diagonals(c5, m4);
-    let m5 = moved(m4);
-    let c6 = columns(v5, m5);
-    let v6 = diagonals(c6, m5);
-    let m6 = moved(m5);
-    let c7 = columns(v6, m6);
-    diagonals(c7, m6)
+    let o1 = [0, 1, 2, 3, 4, 5, 6, 7, 8, 9, 10, 11, 12, 13, 14, 15];
+    let c1 = columns(v, m, o1);
+    let v1 = diagonals(c1, m, o1);
+    let o2 = [2, 6, 3, 10, 7, 0, 4, 13, 1, 11, 12, 5, 9, 14, 15, 8];
+    let c2 = columns(v1, m, o2);
+    let v2 = diagonals(c2, m, o2);
+    let o3 = [3, 4, 10, 12, 13, 2, 7, 14, 6, 5, 9, 0, 11, 15, 8, 1];
+    let c3 = columns(v2, m, o3);
+    let v3 = diagonals(c3, m, o3);
+    let o4 = [10, 7, 12, 9, 14, 3, 13, 15, 4, 0, 11, 2, 5, 8, 1, 6];
+    let c4 = columns(v3, m, o4);
+    let v4 = diagonals(c4, m, o4);
+    let o5 = [12, 13, 9, 11, 15, 10, 14, 8, 7, 2, 5, 3, 0, 1, 6, 4];
+    let c5 = columns(v4, m, o5);
+    let v5 = diagonals(c5, m, o5);
+    let o6 = [9, 14, 11, 5, 8, 12, 15, 1, 13, 3, 0, 10, 2, 6, 4, 7];
+    let c6 = columns(v5, m, o6);
+    let v6 = diagonals(c6, m, o6);
+    let o7 = [11, 15, 5, 0, 1, 9, 8, 6, 14, 10, 2, 12, 3, 4, 7, 13];
+    let c7 = columns(v6, m, o7);
+    diagonals(c7, m, o7)
 }
 
 // The compression of the block of words m into the chaining value h.
