@@ -5,16 +5,16 @@ use mathlib.Core.List.{List, [], _∷_, _++_, append-nil}
 use Prim.Native.Nat.{ℕ, zero, suc, _+_, _-_, _*_, _/_, _%_, _≤_, _<_, min}
 use native.Mathlib.Nat.{le-refl}
 use native.Mathlib.Omega.{arith}
-use borrow.Author.Tests.{le-leb, lt-leb, leb-true, leb-false}
-use lib.Dec.{leb}
+use borrow.Author.Tests.{le-leb, lt-leb, leb-true, leb-false, ltb-true, ltb-false}
+use lib.Dec.{leb, ltb}
 use lib.ListN.{length, take, drop, getD, replicate, length-append, length-drop}
 use lib.Seq.{take-append-le, drop-append-le, take-append-add, drop-append-add, take-all, drop-drop, getD-drop, drop-length, take-length}
 use borrow.Rule.Slice.PartMut.{putMid}
-use Rattle.basis.specs.Basis.{tab, over}
+use Rattle.basis.specs.Basis.{pick, tab, over}
 use Rattle.basis.specs.Tabs.{tab-all, tab-same}
 use Rattle.basis.proofs.Rooms.{lent-over}
 use Rattle.hash_mixing.specs.Compression.{compressOf}
-use Rattle.hash_chunks.specs.Chunks.{wordsOf, keyed, chunkStart, chunkEnd, lastOf, blocksOf, chunkOf}
+use Rattle.hash_chunks.specs.Chunks.{wordsOf, keyed, parentFlag, lastOf, blocksOf, parentOf}
 
 -- two halves of sixteen words
 eight : (s : List ℕ) → length s ≡ 8
@@ -53,11 +53,6 @@ laid head body x p n h en lx ex ep =
     let two : p ≡ over body (take (length x - n) (drop n x)) = rw lx (ep ∙ ap (λ (t : List ℕ). t ++ drop (length body) (take (64 - n) (drop n x))) (take-length body)) in
     ap (wordsOf 16) (rw lx at (lent-over head body (replicate 64 0) x p n en h one lx two)) ∙ padded 16 (head ++ body) (length (head ++ body)) 64
 
--- a whole block in the body leaves nothing for the head
-pub alone : (head body : List ℕ) → length head + length body ≤ 64 → length body ≡ 64 → wordsOf 16 body ≡ wordsOf 16 (head ++ body)
-alone [] body h e = refl
-alone (x ∷ head) body h e = let z : ⊥ = omega arith in elim z [ ]
-
 -- the first n elements of two parts are as many of the first as it has, then some of the second; and so what is left
 pub cut : (n : ℕ) (x y : List ℕ)
     → (take n (x ++ y) ≡ take (min n (length x)) x ++ take (n - min n (length x)) y)
@@ -91,87 +86,115 @@ unfolding blocksOf
 block-last zero h s counter start last g = refl
 block-last (suc k) h s counter start last g = rw (le-leb (length s) 64 g)
 
-past : (i n : ℕ) → i + n - i ≡ n
-past i n = omega arith
+-- where a part from a on, n long, comes to its end in the first l elements
+front : (a n l : ℕ) → min n (l - min a l) ≡ min (a + n) l - min a l
+front a n l = omega arith
 
--- the arithmetic of a turn: m bytes of the head and the rest of 64 from the body
-block-fits : (a b i j m : ℕ) → i ≤ a → j ≤ b → 64 < (a - i) + (b - j) → m ≡ min 64 (a - i) → (i + m ≤ a) × (j + (64 - m) ≤ b) × (m ≤ 64)
-block-fits a b i j m p q g e = (omega arith, omega arith, omega arith)
+back : (a n i e : ℕ) → i ≤ a → i ≤ e → e ≤ i + n → n - (e - i) ≡ a + n - e - (a - i)
+back a n i e p q r = omega arith
 
-falls : (a b i j m : ℕ) → i + m ≤ a → j + (64 - m) ≤ b → m ≤ 64 → (a - (i + m)) + (b - (j + (64 - m))) < (a - i) + (b - j)
-falls a b i j m p q r = omega arith
+grows : (a n l : ℕ) → (min a l ≤ min (a + n) l) × (min (a + n) l ≤ min a l + n) × (min a l ≤ a)
+grows a n l = (omega arith, omega arith, omega arith)
 
-sum : (i j m : ℕ) → m ≤ 64 → i + m + (j + (64 - m)) ≡ i + j + 64
-sum i j m h = omega arith
+-- n elements from `at` on, as they lie in two parts
+pub parted : (x y : List ℕ) (at n : ℕ)
+    → take n (drop at (x ++ y))
+    ≡ take (min (at + n) (length x) - min at (length x)) (drop (min at (length x)) x)
+    ++ take (at + n - min (at + n) (length x) - (at - min at (length x))) (drop (at - min at (length x)) y)
+parted x y at n =
+    let i = min at (length x) in
+    let g = grows at n (length x) in
+    let f : min n (length (drop i x)) ≡ min (at + n) (length x) - i = rw length-drop (front at n (length x)) in
+    let b = back at n i (min (at + n) (length x)) (g .2) (g .0) (g .1) in
+    ap (take n) (cut at x y .1) ∙ (rw (f, b) at (cut n (drop i x) (drop (at - i) y) .0))
 
-far : (a b i j : ℕ) → i ≤ a → j ≤ b → a + b ≤ 1024 → 64 < (a - i) + (b - j) → i + j + 64 < 1024
-far a b i j p q h g = omega arith
+-- behind the first part all of them lie in the second
+pub behind : (x y : List ℕ) (at n : ℕ) → length x ≤ at → take n (drop at (x ++ y)) ≡ take (at - length x + n - (at - length x)) (drop (at - length x) y)
+behind x y at n h =
+    let k : at ≡ length x + (at - length x) = omega arith in
+    let z : at - length x + n - (at - length x) ≡ n = omega arith in
+    rw z (ap (λ (j : ℕ). take n (drop j (x ++ y))) k ∙ ap (take n) (drop-append-add x y (at - length x)))
 
-next-whole : (n : ℕ) → n % 64 ≡ 0 → (n + 64) % 64 ≡ 0
-next-whole n h = omega arith
+fewer : (at : ℕ) → at % 64 ≡ 0 → at + 64 < 1024 → 15 - at / 64 ≡ suc (15 - (at + 64) / 64)
+fewer at h g = omega arith
 
-fewer : (n : ℕ) → n % 64 ≡ 0 → n + 64 < 1024 → 15 - n / 64 ≡ suc (15 - (n + 64) / 64)
-fewer n h g = omega arith
+next-whole : (at : ℕ) → at % 64 ≡ 0 → (at + 64) % 64 ≡ 0
+next-whole at h = omega arith
 
--- what a turn of the chunk's loop keeps: i bytes of the head and j of the body are compressed into h, in whole blocks
-pub record Taken (key head body : List ℕ) (counter root : ℕ) (h : List ℕ) (start i j : ℕ) : Type 0 where
+-- what a turn of the run's loop keeps: the first `at` bytes are compressed into h, in whole blocks, or all of them and the run is done
+pub record Running (key head body : List ℕ) (counter first last : ℕ) (h : List ℕ) (start at : ℕ) (more : Bool) : Type 0 where
   pub short : length head + length body ≤ 1024
-  pub inHead : i ≤ length head
-  pub inBody : j ≤ length body
-  pub whole : (i + j) % 64 ≡ 0
-  pub flag : start ≤ 1
-  pub rest : blocksOf (15 - (i + j) / 64) h (drop i head ++ drop j body) counter start (chunkEnd + root) ≡ chunkOf key (head ++ body) counter root
+  pub inside : at ≤ length head + length body
+  pub flag : start ≤ 4
+  pub whole : more ≡ true → at % 64 ≡ 0
+  pub rest : pick more (blocksOf (15 - at / 64) h (drop at (head ++ body)) counter start last) h ≡ blocksOf 15 key (head ++ body) counter first last
 
-module _ (key head body : List ℕ) (counter root : ℕ) where
-  pub taken-none : length head + length body ≤ 1024 → Taken key head body counter root key chunkStart 0 0
-  unfolding chunkOf
-  taken-none h = record { short = h; inHead = omega arith; inBody = omega arith; whole = refl; flag = omega arith; rest = refl }
+module _ (key head body : List ℕ) (counter first last : ℕ) where
+  pub run-start : length head + length body ≤ 1024 → first ≤ 4 → Running key head body counter first last key first 0 true
+  run-start h f = record { short = h; inside = omega arith; flag = f; whole = λ e. refl; rest = refl }
 
-  module _ (h : List ℕ) (start i j : ℕ) (t : Taken key head body counter root h start i j) where
-    rest-length : length (drop i head ++ drop j body) ≡ (length head - i) + (length body - j)
-    rest-length = length-append (drop i head) (drop j body) ∙ ap₂ (λ (x y : ℕ). x + y) (length-drop i head) (length-drop j body)
+  module _ (h : List ℕ) (start at : ℕ) (t : Running key head body counter first last h start at true) where
+    left-length : length (drop at (head ++ body)) ≡ length head + length body - at
+    left-length = length-drop at (head ++ body) ∙ ap (λ (n : ℕ). n - at) (length-append head body)
 
-    pub taken-less : (m : ℕ) → 64 < (length head - i) + (length body - j) → m ≡ min 64 (length head - i)
-        → (length head - (i + m)) + (length body - (j + (64 - m))) < (length head - i) + (length body - j)
-    taken-less m g em =
-        let a = block-fits (length head) (length body) i j m (t .inHead) (t .inBody) g em in
-        falls (length head) (length body) i j m (a .0) (a .1) (a .2)
-
-    pub taken-one : (m : ℕ) (next : List ℕ) → 64 < (length head - i) + (length body - j) → m ≡ min 64 (length head - i)
-        → next ≡ compressOf h (wordsOf 16 (take (i + m - i) (drop i head) ++ take (j + (64 - m) - j) (drop j body))) counter 64 (keyed + start)
-        → Taken key head body counter root next 0 (i + m) (j + (64 - m))
-    unfolding blocksOf
-    taken-one m next g em en =
-        let a = block-fits (length head) (length body) i j m (t .inHead) (t .inBody) g em in
-        let e = sum i j m (a .2) in
-        let f = fewer (i + j) (t .whole) (far (length head) (length body) i j (t .inHead) (t .inBody) (t .short) g) in
-        let c = cut 64 (drop i head) (drop j body) in
-        let lx : min 64 (length (drop i head)) ≡ m = rw length-drop (sym em) in
-        let parts = rw lx at (c .0) in
-        let left = rw (lx, drop-drop m i head, drop-drop (64 - m) j body) at (c .1) in
-        let words = ap (λ (x : List ℕ). compressOf h (wordsOf 16 x) counter 64 (keyed + start)) (sym parts) in
-        let state : next ≡ compressOf h (wordsOf 16 (take 64 (drop i head ++ drop j body))) counter 64 (keyed + start) = rw (past i m, past j (64 - m)) at en ∙ words in
+    turn : (n : ℕ) (next : List ℕ) → n ≡ min 64 (length head + length body - at) → (b : Bool) → ltb (at + n) (length head + length body) ≡ b
+        → next ≡ compressOf h (wordsOf 16 (take n (drop at (head ++ body)))) counter n (keyed + start + pick b 0 last)
+        → Running key head body counter first last next 0 (at + n) b
+    turn n next en true e p =
+        let g : at + n < length head + length body = ltb-true _ _ e in
+        let whole : n ≡ 64 = omega arith in
+        let w = t .whole refl in
+        let none : keyed + start + 0 ≡ keyed + start = omega arith in
+        let more : 64 < length (drop at (head ++ body)) = rw left-length (omega arith) in
+        let state : next ≡ compressOf h (wordsOf 16 (take 64 (drop at (head ++ body)))) counter 64 (keyed + start) = rw (whole, none) at p in
         record {
           short = t .short;
-          inHead = a .0;
-          inBody = a .1;
-          whole = rw e (next-whole (i + j) (t .whole));
+          inside = omega arith;
           flag = omega arith;
+          whole = λ x. rw whole (next-whole at w);
           rest =
-              rw e (
-              ap₂ (λ (x y : List ℕ). blocksOf (15 - (i + j + 64) / 64) x y counter 0 (chunkEnd + root)) state (sym left)
-              ∙ block-more (15 - (i + j + 64) / 64) h (drop i head ++ drop j body) counter start (chunkEnd + root) (rw rest-length g)
-              ∙ (rw f at (t .rest))
+              rw whole (
+              ap₂ (λ (x y : List ℕ). blocksOf (15 - (at + 64) / 64) x y counter 0 last) state (sym (drop-drop 64 at (head ++ body)))
+              ∙ block-more (15 - (at + 64) / 64) h (drop at (head ++ body)) counter start last more
+              ∙ (rw (fewer at w (omega arith)) at (t .rest))
               );
         }
+    turn n next en false e p =
+        let g : length head + length body ≤ at + n = ltb-false _ _ e in
+        let all : n ≡ length (drop at (head ++ body)) = rw left-length (omega arith) in
+        let few : length (drop at (head ++ body)) ≤ 64 = rw left-length (omega arith) in
+        let words : take n (drop at (head ++ body)) ≡ drop at (head ++ body) = take-all n (drop at (head ++ body)) (omega arith) in
+        record {
+          short = t .short;
+          inside = omega arith;
+          flag = omega arith;
+          whole = λ x. let z : _≡_ {A = ℕ} 0 1 = cc in omega arith;
+          rest = rw (words, all) at p ∙ block-last (15 - at / 64) h (drop at (head ++ body)) counter start last few ∙ t .rest;
+        }
 
-    pub taken-all : (r : List ℕ) → (length head - i) + (length body - j) ≤ 64
-        → r ≡ compressOf h (wordsOf 16 (take (length head - i) (drop i head) ++ take (length body - j) (drop j body))) counter
-        ((length head - i) + (length body - j)) (keyed + start + (chunkEnd + root))
-        → r ≡ chunkOf key (head ++ body) counter root
-    taken-all r g e =
-        let x : take (length head - i) (drop i head) ≡ drop i head = take-all (length head - i) (drop i head) (rw length-drop (le-refl (length head - i))) in
-        let y : take (length body - j) (drop j body) ≡ drop j body = take-all (length body - j) (drop j body) (rw length-drop (le-refl (length body - j))) in
-        rw (x, y, ← rest-length) at e
-        ∙ block-last (15 - (i + j) / 64) h (drop i head ++ drop j body) counter start (chunkEnd + root) (rw rest-length g)
-        ∙ t .rest
+    pub run-turn : (n : ℕ) (m next : List ℕ) (f : ℕ) → n ≡ min 64 (length head + length body - at) → m ≡ wordsOf 16 (take n (drop at (head ++ body)))
+        → f ≡ pick (ltb (at + n) (length head + length body)) 0 last → next ≡ compressOf h m counter n (keyed + start + f)
+        → Running key head body counter first last next 0 (at + n) (ltb (at + n) (length head + length body))
+    run-turn n m next f en em ef p =
+        turn n next en (ltb (at + n) (length head + length body)) refl (p ∙ ap₂ (λ (x : List ℕ) (y : ℕ). compressOf h x counter n (keyed + start + y)) em ef)
+
+  -- at the end of the loop the chaining value is the run's
+  pub run-end : (h : List ℕ) (start at : ℕ) → Running key head body counter first last h start at false → h ≡ blocksOf 15 key (head ++ body) counter first last
+  run-end h start at t = t .rest
+
+-- a turn takes bytes, or is the last one
+pub run-less : (at n total : ℕ) → n ≡ min 64 (total - at) → total - (at + n) + pick (ltb (at + n) total) 1 0 < total - at + 1
+run-less at n total e = by (ltb (at + n) total) refl
+  where
+    by : (b : Bool) → ltb (at + n) total ≡ b → total - (at + n) + pick b 1 0 < total - at + 1
+    by true t = let h : at + n < total = ltb-true _ _ t in omega arith
+    by false t = let h : total ≤ at + n = ltb-false _ _ t in omega arith
+
+-- a parent is a run of one block, the bytes of its children
+pub parent-run : (key bytes a b r : List ℕ) (root : ℕ) → length bytes ≡ 64 → wordsOf 16 bytes ≡ a ++ b → r ≡ blocksOf 15 key bytes 0 parentFlag root
+    → r ≡ parentOf key a b root
+unfolding parentOf
+parent-run key bytes a b r root size words p =
+    p
+    ∙ sym (block-last 15 key bytes 0 parentFlag root (omega arith))
+    ∙ ap₂ (λ (m : List ℕ) (n : ℕ). compressOf key m 0 n (keyed + parentFlag + root)) words size

@@ -3,8 +3,10 @@
 ghost use mathlib.Core.Path.{_≡_};
 ghost use mathlib.Core.List.{_++_};
 ghost use Prim.Native.Nat.{_<_, _≤_, _+_};
-ghost use lib.ListN.{length};
-ghost use Rattle.hash_chunks.specs.Chunks.{le32, wordsOf, chunkOf, parentOf};
+ghost use lib.ListN.{length, take, drop};
+ghost use Rattle.basis.specs.Basis.{pick};
+ghost use Rattle.hash_chunks.specs.Chunks.{parentFlag, le32, wordsOf, blocksOf, chunkOf, parentOf};
+ghost use Rattle.hash_chunks.specs.Lying.{Lying};
 
 const CHUNK_START: u32 = 1;
 
@@ -53,48 +55,95 @@ fn block_words(s: &[u8]) -> [u32; 16]
     w
 }
 
-// The words of one block. A whole one in the body is read where it lies; only a block that is short
-// or crosses from head to body goes through 64 bytes of its own.
+// The words of one block that is short or crosses from head to body: it goes through 64 bytes of its own.
 fn block(head: &[u8], body: &[u8]) -> [u32; 16]
     requires { ⌜ length (now head) + length (now body) ≤ 64 ⌝ }
     ensures { λ r. ⌜ r ≡ wordsOf 16 (now (head .entry) ++ now (body .entry)) ⌝ }
 {
-    if body.len() == 64 {
-        return block_words(body);
-    }
     let mut b = [0u8; 64];
     let n = bytes::copy(head, &mut b);
     bytes::copy(body, &mut b[n..]);
     block_words(&b)
 }
 
+// The words of the n bytes from `at` on. A whole block in the body is read where it lies.
+fn words_at(head: &[u8], body: &[u8], at: usize, n: usize) -> [u32; 16]
+    requires { ⌜ Lying (length (now head) + length (now body)) at n ⌝ }
+    ensures { λ r. ⌜ r ≡ wordsOf 16 (take n (drop at (now (head .entry) ++ now (body .entry)))) ⌝ }
+{
+    if n == 64 {
+        if head.len() <= at {
+            let j = at - head.len();
+            return block_words(&body[j..j + 64]);
+        }
+    }
+    let i = basis::least(at, head.len());
+    let a = basis::least(at + n, head.len());
+    block(&head[i..a], &body[at - i..at + n - a])
+}
+
+fn if_last(more: bool, flags: u32) -> u32
+    ensures { λ r. ⌜ (r ≡ pick more 0 flags) × (r ≤ flags) ⌝ }
+{
+    if more {
+        return 0;
+    }
+    flags
+}
+
+// A run of blocks, the first with the flag `first`, the last with the flags `last`. Only here is a block compressed:
+// with one call the compiler lays the compression into the loop, and the chaining value stays in registers.
+fn run(key: [u32; 8], head: &[u8], body: &[u8], counter: u64, first: u32, last: u32) -> [u32; 8]
+    requires { ⌜ (length (now head) + length (now body) ≤ 1024) × (first ≤ 4) × (last ≤ 10) ⌝ }
+    ensures { λ r. ⌜ r ≡ blocksOf 15 key (now (head .entry) ++ now (body .entry)) counter first last ⌝ }
+{
+    let total = head.len() + body.len();
+    let mut h = key;
+    let mut start = first;
+    let mut at: usize = 0;
+    let mut more = true;
+    while more {
+        let n = basis::least(64, total - at);
+        let end = at + n;
+        more = end < total;
+        let flags = KEYED + start + if_last(more, last);
+        let next = hash_mixing::compress(h, words_at(head, body, at, n), counter, n as u32, flags);
+        h = next;
+        start = 0;
+        at = end;
+    }
+    h
+}
+
 pub fn chunk(key: [u32; 8], head: &[u8], body: &[u8], counter: u64, root: u32) -> [u32; 8]
     requires { ⌜ (length (now head) + length (now body) ≤ 1024) × (root ≤ 8) ⌝ }
     ensures { λ r. ⌜ r ≡ chunkOf key (now (head .entry) ++ now (body .entry)) counter root ⌝ }
 {
-    let mut h = key;
-    let mut start = CHUNK_START;
+    run(key, head, body, counter, CHUNK_START, CHUNK_END + root)
+}
+
+// The bytes of sixteen words, each with its low byte first. Four stores a turn: the compiler makes one of them.
+fn block_bytes(w: [u32; 16]) -> [u8; 64]
+    ensures { λ r. ⌜ wordsOf 16 r ≡ w ⌝ }
+{
+    let mut out = [0u8; 64];
     let mut i: usize = 0;
-    let mut j: usize = 0;
-    while 64 < (head.len() - i) + (body.len() - j) {
-        let n = basis::least(64, head.len() - i);
-        let a = i + n;
-        let b = j + (64 - n);
-        let next = hash_mixing::compress(
-            h,
-            block(&head[i..a], &body[j..b]),
-            counter,
-            64,
-            KEYED + start,
-        );
-        h = next;
-        start = 0;
-        i = a;
-        j = b;
+    while i < 16 {
+        let x = w[i];
+        out[i * 4] = (x % 256) as u8;
+        out[i * 4 + 1] = (x / 256 % 256) as u8;
+        out[i * 4 + 2] = (x / 65536 % 256) as u8;
+        out[i * 4 + 3] = (x / 16777216 % 256) as u8;
+        i += 1;
     }
-    let len = (head.len() - i) + (body.len() - j);
-    let flags = KEYED + start + (CHUNK_END + root);
-    hash_mixing::compress(h, block(&head[i..], &body[j..]), counter, len as u32, flags)
+    out
+}
+
+fn run_parent(key: [u32; 8], block: &[u8], root: u32) -> [u32; 8]
+    requires { ⌜ (length (now block) ≤ 64) × (root ≤ 8) ⌝ }
+    ensures { λ r. ⌜ r ≡ blocksOf 15 key (now (block .entry)) 0 parentFlag root ⌝ }
+{
+    run(key, &block[..0], block, 0, PARENT, root)
 }
 
 pub fn parent(key: [u32; 8], a: [u32; 8], b: [u32; 8], root: u32) -> [u32; 8]
@@ -119,5 +168,6 @@ pub fn parent(key: [u32; 8], a: [u32; 8], b: [u32; 8], root: u32) -> [u32; 8]
         b[6],
         b[7],
     ];
-    hash_mixing::compress(key, both, 0, 64, KEYED + PARENT + root)
+    let b = block_bytes(both);
+    run_parent(key, &b, root)
 }

@@ -1,4 +1,5 @@
 pub mod Turning
-pub mod Rounding
+pub mod Within
 pub mod Picking
+pub mod Rounding
 pub mod OneAnswer

@@ -50,7 +50,8 @@ fn tree(key: [u32; 8], head: &[u8], body: &[u8], counter: u64, h: u32, root: u32
     let c = chunks(k);
     let l = c * 1024;
     if n <= l {
-        return tree(key, head, body, counter, k, root);
+        // Lent anew: passed on as they came, both would have to lie in memory, and every call would wait for that.
+        return tree(key, &head[..], &body[..], counter, k, root);
     }
     let a = basis::least(l, head.len());
     let b = l - a;

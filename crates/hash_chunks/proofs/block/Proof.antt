@@ -3,7 +3,7 @@ use mathlib.Core.List.{List}
 use Prim.Native.Nat.{ℕ, _-_}
 use lib.ListN.{length}
 use borrow.Rule.Slice.PartMut.{putMid, same-len-mid}
-use Rattle.hash_chunks.proofs.Blocks.{alone, laid}
+use Rattle.hash_chunks.proofs.Blocks.{laid}
 use borrow.Author.Needs.{needs}
 use Rattle.hash_chunks.proofs.block.Statement.{statement}
 use Rattle.hash_chunks.proofs.block.Tie as tie
@@ -19,19 +19,13 @@ abbrev body : tie.Start → List ℕ
 body s = s .args .body .now
 
 abbrev start : tie.After-copy2 → tie.Start
-start c = c .before .before .before .before .before .before .before .before
+start c = c .before .before .before .before .before .before .before
 
 -- the 64 bytes stay 64
 long : (c : tie.After-copy2) → length (putMid (c .before .before .before .copy .result) (64 - c .before .before .before .copy .result) (c .before .before .before .copy .last .1 .0) (c .copy2 .last .1 .0)) ≡ 64
 long c =
     let o = c .before .before .before in
     same-len-mid (o .copy .result) (64 - o .copy .result) (o .copy .last .1 .0) (c .copy2 .last .1 .0) (c .copy2 .kept .1 .0) ∙ o .copy .kept .1 .0
-
-block-words-requires : tie.Need-block-words-requires
-block-words-requires c κs = search needs
-
-returns : tie.Need-returns
-returns c = c .block-words .ensures ∙ alone (head (c .before .before .before .before)) (body (c .before .before .before .before)) (c .before .before .before .before .pre) (c .before .if1 .taken)
 
 slice-aggregate-copy : tie.Need-slice-aggregate-copy
 slice-aggregate-copy c = search needs
@@ -54,22 +48,20 @@ copy-requires-2 c κs = search needs
 slice-aggregate-block-words : tie.Need-slice-aggregate-block-words
 slice-aggregate-block-words c = sym (long (c .before .before))
 
-block-words-requires-2 : tie.Need-block-words-requires-2
-block-words-requires-2 c κs = long (c .before .before)
+block-words-requires : tie.Need-block-words-requires
+block-words-requires c κs = long (c .before .before)
 
-returns-2 : tie.Need-returns-2
-returns-2 c =
+returns : tie.Need-returns
+returns c =
     let a = c .before .before .before in
     let s = start a in
     let e = a .before .before .before .copy .ensures in
-    c .block-words2 .ensures ∙ laid (head s) (body s) _ _ _ (s .pre) (e .0) (a .before .before .before .copy .kept .1 .0) (e .1) (a .copy2 .ensures .1)
+    c .block-words .ensures ∙ laid (head s) (body s) _ _ _ (s .pre) (e .0) (a .before .before .before .copy .kept .1 .0) (e .1) (a .copy2 .ensures .1)
 
 pub block-spec : {M : Type 1} → statement M
 block-spec =
     tie.close
     (tie.spec
-    block-words-requires
-    returns
     slice-aggregate-copy
     copy-requires
     sub-copy
@@ -77,5 +69,5 @@ block-spec =
     part-b-end
     copy-requires-2
     slice-aggregate-block-words
-    block-words-requires-2
-    returns-2)
+    block-words-requires
+    returns)

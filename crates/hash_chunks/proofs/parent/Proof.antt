@@ -1,101 +1,96 @@
-use mathlib.Core.Path.{ap, _∙_}
-use mathlib.Core.List.{List}
-use Prim.Native.Nat.{ℕ, _+_}
-use Rattle.hash_mixing.specs.Compression.{compressOf}
-use Rattle.hash_chunks.specs.Chunks.{parentOf}
-use Rattle.hash_chunks.proofs.Blocks.{both}
+use mathlib.Core.Path.{_∙_}
 use borrow.Author.Needs.{needs}
 use Rattle.hash_chunks.proofs.parent.Statement.{statement}
 use Rattle.hash_chunks.proofs.parent.Tie as tie
 use Rattle.hash_chunks.proofs.parent.Reads as reads
 use Rattle.hash_chunks.proofs.parent.Lts as lts
-use Rattle.hash_mixing.proofs.compress.Reads as compress-reads
+use Rattle.hash_chunks.proofs.Blocks.{both, parent-run}
 
-array-read-compress : tie.Need-array-read-compress
-array-read-compress c = search needs
+array-read-t11 : tie.Need-array-read-t11
+array-read-t11 c = search needs
 
-array-read-t13 : tie.Need-array-read-t13
-array-read-t13 c = search needs
+array-read-t14 : tie.Need-array-read-t14
+array-read-t14 c = search needs
 
-array-read-t16 : tie.Need-array-read-t16
-array-read-t16 c = search needs
+array-read-t17 : tie.Need-array-read-t17
+array-read-t17 c = search needs
 
-array-read-t19 : tie.Need-array-read-t19
-array-read-t19 c = search needs
+array-read-t20 : tie.Need-array-read-t20
+array-read-t20 c = search needs
 
-array-read-t22 : tie.Need-array-read-t22
-array-read-t22 c = search needs
+array-read-t23 : tie.Need-array-read-t23
+array-read-t23 c = search needs
 
-array-read-t25 : tie.Need-array-read-t25
-array-read-t25 c = search needs
+array-read-t26 : tie.Need-array-read-t26
+array-read-t26 c = search needs
 
-array-read-t28 : tie.Need-array-read-t28
-array-read-t28 c = search needs
+array-read-t29 : tie.Need-array-read-t29
+array-read-t29 c = search needs
 
-array-read-t31 : tie.Need-array-read-t31
-array-read-t31 c = search needs
+array-read-t32 : tie.Need-array-read-t32
+array-read-t32 c = search needs
 
-array-read-t34 : tie.Need-array-read-t34
-array-read-t34 c = search needs
+array-read-t35 : tie.Need-array-read-t35
+array-read-t35 c = search needs
 
-array-read-t37 : tie.Need-array-read-t37
-array-read-t37 c = search needs
+array-read-t38 : tie.Need-array-read-t38
+array-read-t38 c = search needs
 
-array-read-t40 : tie.Need-array-read-t40
-array-read-t40 c = search needs
+array-read-t41 : tie.Need-array-read-t41
+array-read-t41 c = search needs
 
-array-read-t43 : tie.Need-array-read-t43
-array-read-t43 c = search needs
+array-read-t44 : tie.Need-array-read-t44
+array-read-t44 c = search needs
 
-array-read-t46 : tie.Need-array-read-t46
-array-read-t46 c = search needs
+array-read-t47 : tie.Need-array-read-t47
+array-read-t47 c = search needs
 
-array-read-t49 : tie.Need-array-read-t49
-array-read-t49 c = search needs
+array-read-t50 : tie.Need-array-read-t50
+array-read-t50 c = search needs
 
-array-read-t52 : tie.Need-array-read-t52
-array-read-t52 c = search needs
+array-read-t53 : tie.Need-array-read-t53
+array-read-t53 c = search needs
 
-array-read-compress-2 : tie.Need-array-read-compress-2
-array-read-compress-2 c = search needs
+array-read-t56 : tie.Need-array-read-t56
+array-read-t56 c = search needs
 
-add-compress : tie.Need-add-compress
-add-compress c = search needs
+block-bytes-requires : tie.Need-block-bytes-requires
+block-bytes-requires c κs = search needs
 
-add-compress-2 : tie.Need-add-compress-2
-add-compress-2 c = search needs
+slice-aggregate-run-parent : tie.Need-slice-aggregate-run-parent
+slice-aggregate-run-parent c = search needs
 
-compress-requires : tie.Need-compress-requires
-compress-requires c κs = search needs
+run-parent-requires : tie.Need-run-parent-requires
+run-parent-requires c κs = search needs
 
 returns : tie.Need-returns
-unfolding parentOf
 returns c =
-    let s = c .before in
+    let b = c .before .before .block-bytes in
+    let s = c .before .before .before in
     let e = both (s .args .t2) (s .args .t3) (s .good .1 .0 .1 .0 .1) (s .good .1 .1 .0 .1 .0 .1) in
-    c .compress .ensures ∙ ap (λ (m : List ℕ). compressOf (s .args .key) m 0 64 (20 + s .args .root)) e
+    parent-run _ _ _ _ _ _ (b .ok .1 .0 .1) (b .ensures ∙ e) (c .run-parent .ensures)
 
 pub parent-spec : {M : Type 1} → statement M
 parent-spec =
     tie.close
     (tie.spec
-    array-read-compress
-    array-read-t13
-    array-read-t16
-    array-read-t19
-    array-read-t22
-    array-read-t25
-    array-read-t28
-    array-read-t31
-    array-read-t34
-    array-read-t37
-    array-read-t40
-    array-read-t43
-    array-read-t46
-    array-read-t49
-    array-read-t52
-    array-read-compress-2
-    add-compress
-    add-compress-2
-    compress-requires
+    array-read-t11
+    array-read-t14
+    array-read-t17
+    array-read-t20
+    array-read-t23
+    array-read-t26
+    array-read-t29
+    array-read-t32
+    array-read-t35
+    array-read-t38
+    array-read-t41
+    array-read-t44
+    array-read-t47
+    array-read-t50
+    array-read-t53
+    array-read-t56
+    block-bytes-requires
+    slice-aggregate-run-parent
+    run-parent-requires
     returns)
