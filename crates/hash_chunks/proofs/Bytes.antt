@@ -1,4 +1,4 @@
--- Four bytes of a word a turn: what the loop of `block_bytes` keeps, and why the words of those bytes are the words again.
+-- Four bytes of a word a turn: what a loop keeps that lays n words down as bytes, and why the words of those bytes are the words again.
 use mathlib.Core.Path.{_≡_, sym, _∙_}
 use mathlib.Core.List.{List}
 use Prim.Native.Nat.{ℕ, _+_, _*_, _/_, _%_, _^_, _<_}
@@ -21,18 +21,18 @@ byte-at w i k h =
     let r : (i * 4 + k) % 4 ≡ k = omega arith in
     rw (q, r)
 
-pub four-bytes : (w entry out : List ℕ) (i : ℕ) → i < 16 → length entry ≡ 64 → Tabbed (rule w) entry out (i * 4)
+pub four-bytes : (n : ℕ) (w entry out : List ℕ) (i : ℕ) → i < n → length entry ≡ n * 4 → Tabbed (rule w) entry out (i * 4)
     → Tabbed (rule w) entry (set (set (set (set out (i * 4) (getD w i 0 % 256)) (i * 4 + 1) (getD w i 0 / 256 % 256)) (i * 4 + 2) (getD w i 0 / 65536 % 256)) (i * 4 + 3) (getD w i 0 / 16777216 % 256)) ((i + 1) * 4)
-four-bytes w entry out i h l t =
+four-bytes n w entry out i h l t =
     let x = getD w i 0 in
     let z : i * 4 + 0 ≡ i * 4 = omega arith in
-    let n0 : i * 4 + 1 + 1 ≡ i * 4 + 2 = omega arith in
-    let n1 : i * 4 + 2 + 1 ≡ i * 4 + 3 = omega arith in
-    let n2 : i * 4 + 3 + 1 ≡ (i + 1) * 4 = omega arith in
+    let s0 : i * 4 + 1 + 1 ≡ i * 4 + 2 = omega arith in
+    let s1 : i * 4 + 2 + 1 ≡ i * 4 + 3 = omega arith in
+    let s2 : i * 4 + 3 + 1 ≡ (i + 1) * 4 = omega arith in
     let t1 = tab-step (rule w) entry out (i * 4) (x % 256) t (omega arith) (rw (div-one, z) at (byte-at w i 0 (omega arith))) in
-    let t2 = rw n0 at (tab-step (rule w) entry _ (i * 4 + 1) (x / 256 % 256) t1 (omega arith) (byte-at w i 1 (omega arith))) in
-    let t3 = rw n1 at (tab-step (rule w) entry _ (i * 4 + 2) (x / 65536 % 256) t2 (omega arith) (byte-at w i 2 (omega arith))) in
-    rw n2 at (tab-step (rule w) entry _ (i * 4 + 3) (x / 16777216 % 256) t3 (omega arith) (byte-at w i 3 (omega arith)))
+    let t2 = rw s0 at (tab-step (rule w) entry _ (i * 4 + 1) (x / 256 % 256) t1 (omega arith) (byte-at w i 1 (omega arith))) in
+    let t3 = rw s1 at (tab-step (rule w) entry _ (i * 4 + 2) (x / 65536 % 256) t2 (omega arith) (byte-at w i 2 (omega arith))) in
+    rw s2 at (tab-step (rule w) entry _ (i * 4 + 3) (x / 16777216 % 256) t3 (omega arith) (byte-at w i 3 (omega arith)))
 
 -- in steps of one byte: at once `omega` does not find it
 digits : (x : ℕ) → x < 4294967296 → x % 256 + x / 256 % 256 * 256 + x / 65536 % 256 * 65536 + x / 16777216 % 256 * 16777216 ≡ x

@@ -52,10 +52,11 @@ fn columns(v: [u32; 16], m: [u32; 16], o: [usize; 16]) -> [u32; 16]
     requires { ⌜ InBlock o ⌝ }
     ensures { λ r. ⌜ r ≡ columnsOf v (pickedOf m o) ⌝ }
 {
-    let p = mix(v[0], v[4], v[8], v[12], m[o[0]], m[o[1]]);
-    let q = mix(v[1], v[5], v[9], v[13], m[o[2]], m[o[3]]);
+    // In which order the four are mixed is free: in this one the compiler spills least (docs/changes/M-102.md).
     let r = mix(v[2], v[6], v[10], v[14], m[o[4]], m[o[5]]);
+    let p = mix(v[0], v[4], v[8], v[12], m[o[0]], m[o[1]]);
     let s = mix(v[3], v[7], v[11], v[15], m[o[6]], m[o[7]]);
+    let q = mix(v[1], v[5], v[9], v[13], m[o[2]], m[o[3]]);
     [
         p.a,
         q.a,
@@ -80,8 +81,8 @@ fn diagonals(v: [u32; 16], m: [u32; 16], o: [usize; 16]) -> [u32; 16]
     requires { ⌜ InBlock o ⌝ }
     ensures { λ r. ⌜ r ≡ diagonalsOf v (pickedOf m o) ⌝ }
 {
-    let p = mix(v[0], v[5], v[10], v[15], m[o[8]], m[o[9]]);
     let q = mix(v[1], v[6], v[11], v[12], m[o[10]], m[o[11]]);
+    let p = mix(v[0], v[5], v[10], v[15], m[o[8]], m[o[9]]);
     let r = mix(v[2], v[7], v[8], v[13], m[o[12]], m[o[13]]);
     let s = mix(v[3], v[4], v[9], v[14], m[o[14]], m[o[15]]);
     [

@@ -1,4 +1,3 @@
-pub mod Spreading
 pub mod Halves
 mod Hashing
 pub mod OneAnswer

@@ -4,8 +4,9 @@ use answers::Answer;
 use basis::limits;
 ghost use mathlib.Core.Path.{_≡_};
 ghost use mathlib.Core.List.{_++_};
-ghost use Prim.Native.Nat.{_<_, _+_, _^_};
+ghost use Prim.Native.Nat.{_<_, _≤_, _+_, _^_};
 ghost use lib.ListN.{length};
+ghost use Rattle.hash_chunks.specs.Chunks.{rootFlag};
 ghost use Rattle.keyed_hash.specs.Tree.{bytesOfWords, treeOf};
 ghost use Rattle.keyed_hash.specs.KeyedHash.{hashedOf, refusedHash};
 ghost use Rattle.keyed_hash.specs.Fits.{Fit};
@@ -60,6 +61,17 @@ fn tree(key: [u32; 8], head: &[u8], body: &[u8], counter: u64, h: u32, root: u32
     hash_chunks::parent(key, left, right, root)
 }
 
+// The root over head and body. Most messages are one chunk, and need no tree.
+fn root(key: [u32; 8], head: &[u8], body: &[u8]) -> [u32; 8]
+    requires { ⌜ length (now head) + length (now body) ≤ 8192 ⌝ }
+    ensures { λ r. ⌜ r ≡ treeOf key 3 (now (head .entry) ++ now (body .entry)) 0 rootFlag ⌝ }
+{
+    if head.len() + body.len() <= 1024 {
+        return hash_chunks::chunk(key, head, body, 0, ROOT);
+    }
+    tree(key, head, body, 0, 3, ROOT)
+}
+
 // Four stores a turn: the compiler makes one of them.
 fn spread(w: [u32; 8]) -> [u8; 32]
     ensures { λ r. ⌜ r ≡ bytesOfWords w ⌝ }
@@ -99,7 +111,7 @@ pub fn keyed_hash_joined(key: &[u8], head: &[u8], body: &[u8]) -> Hashed
     if limits::MESSAGE_MOST - head.len() < body.len() {
         return refused();
     }
-    let top = tree(hash_chunks::key_words(key), head, body, 0, 3, ROOT);
+    let top = root(hash_chunks::key_words(key), head, body);
     Hashed {
         answer: answers::number(Answer::Allow),
         bytes: spread(top),

@@ -79,7 +79,7 @@ loop-less : tie.Need-loop-less Inv-loop μ-loop
 loop-less c = search needs
 
 loop-again : tie.Need-loop-again Inv-loop μ-loop
-loop-again c = (refl, four-bytes (c .before .before .args .t1) _ _ (c .before .loop .i) (c .loop-test .taken) refl (c .before .loop .inv .1))
+loop-again c = (refl, four-bytes 16 (c .before .before .args .t1) _ _ (c .before .loop .i) (c .loop-test .taken) refl (c .before .loop .inv .1))
 
 returns : tie.Need-returns Inv-loop μ-loop
 returns c =

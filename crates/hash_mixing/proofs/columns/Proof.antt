@@ -143,7 +143,7 @@ mix-requires-4 c κs = search needs
 
 returns : tie.Need-returns
 unfolding columnsOf asColumns pickedOf tab
-returns c = ap-four asColumns (c .before .before .before .mix .ensures) (c .before .before .mix2 .ensures) (c .before .mix3 .ensures) (c .mix4 .ensures)
+returns c = ap-four asColumns (c .before .before .mix2 .ensures) (c .mix4 .ensures) (c .before .before .before .mix .ensures) (c .before .mix3 .ensures)
 
 pub columns-spec : {M : Type 1} → statement M
 columns-spec =

@@ -143,7 +143,7 @@ mix-requires-4 c κs = search needs
 
 returns : tie.Need-returns
 unfolding diagonalsOf asDiagonals pickedOf tab
-returns c = ap-four asDiagonals (c .before .before .before .mix .ensures) (c .before .before .mix2 .ensures) (c .before .mix3 .ensures) (c .mix4 .ensures)
+returns c = ap-four asDiagonals (c .before .before .mix2 .ensures) (c .before .before .before .mix .ensures) (c .before .mix3 .ensures) (c .mix4 .ensures)
 
 pub diagonals-spec : {M : Type 1} → statement M
 diagonals-spec =

@@ -15,7 +15,7 @@ use Rattle.answers.proofs.number.Reads as number-reads
 use Rattle.hash_chunks.proofs.key_words.Reads as key-words-reads
 use Rattle.keyed_hash.proofs.refused.Reads as refused-reads
 use Rattle.keyed_hash.proofs.spread.Reads as spread-reads
-use Rattle.keyed_hash.proofs.tree.Reads as tree-reads
+use Rattle.keyed_hash.proofs.root.Reads as root-reads
 
 refused-requires : tie.Need-refused-requires
 refused-requires c κs = search needs
@@ -45,8 +45,8 @@ returns-3 c =
 key-words-requires : tie.Need-key-words-requires
 key-words-requires c κs = search needs
 
-tree-requires : tie.Need-tree-requires
-tree-requires c κs = search needs
+root-requires : tie.Need-root-requires
+root-requires c κs = search needs
 
 number-requires : tie.Need-number-requires
 number-requires c κs = search needs
@@ -59,7 +59,7 @@ returns-4 c =
     let s = c .before .before .before .before .before .before .before .before .before .before in
     let m = s .args .head .now ++ s .args .body .now in
     let key = c .before .before .before .key-words .ensures in
-    let root = c .before .before .tree .ensures ∙ ap (λ (k : List ℕ). treeOf k 3 m 0 rootFlag) key in
+    let root = c .before .before .root .ensures ∙ ap (λ (k : List ℕ). treeOf k 3 m 0 rootFlag) key in
     taken (s .args .key .now) m (c .before .before .before .before .before .before .if1 .left) (simp length-append (omega arith)) (c .before .number .ensures) (c .spread .ensures ∙ ap bytesOfWords root)
 
 pub keyed-hash-joined-spec : {M : Type 1} → statement M
@@ -74,7 +74,7 @@ keyed-hash-joined-spec =
     refused-requires-3
     returns-3
     key-words-requires
-    tree-requires
+    root-requires
     number-requires
     spread-requires
     returns-4)

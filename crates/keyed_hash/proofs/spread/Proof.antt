@@ -1,4 +1,4 @@
-use Rattle.keyed_hash.proofs.Spreading.{four-bytes}
+use Rattle.hash_chunks.proofs.Bytes.{four-bytes}
 use mathlib.Core.Path.{_≡_, refl}
 use Prim.Native.Nat.{_-_, _*_, _/_, _%_}
 use native.Mathlib.Omega.{arith}
@@ -78,7 +78,7 @@ loop-less : tie.Need-loop-less Inv-loop μ-loop
 loop-less c = search needs
 
 loop-again : tie.Need-loop-again Inv-loop μ-loop
-loop-again c = (refl, four-bytes (c .before .before .args .t1) _ (c .before .loop .i) _ (c .loop-test .taken) refl (c .before .loop .inv .1))
+loop-again c = (refl, four-bytes 8 (c .before .before .args .t1) _ _ (c .before .loop .i) (c .loop-test .taken) refl (c .before .loop .inv .1))
 
 returns : tie.Need-returns Inv-loop μ-loop
 returns c = tab-end _ _ _ _ (c .before .loop .inv .1) (omega arith)
