@@ -82,6 +82,7 @@ fn words_at(head: &[u8], body: &[u8], at: usize, n: usize) -> [u32; 16]
     block(&head[i..a], &body[at - i..at + n - a])
 }
 
+// What the last block of a run carries besides, and no other.
 fn if_last(more: bool, flags: u32) -> u32
     ensures { λ r. ⌜ (r ≡ pick more 0 flags) × (r ≤ flags) ⌝ }
 {
@@ -91,8 +92,8 @@ fn if_last(more: bool, flags: u32) -> u32
     flags
 }
 
-// A run of blocks, the first with the flag `first`, the last with the flags `last`. Only here is a block compressed:
-// with one call the compiler lays the compression into the loop, and the chaining value stays in registers.
+// A run of blocks, the first with the flag `first`, the last with the flags `last`. Blocks are compressed nowhere else:
+// of a single call the compiler makes a part of the loop, and the chaining value stays in registers.
 fn run(key: [u32; 8], head: &[u8], body: &[u8], counter: u64, first: u32, last: u32) -> [u32; 8]
     requires { ⌜ (length (now head) + length (now body) ≤ 1024) × (first ≤ 4) × (last ≤ 10) ⌝ }
     ensures { λ r. ⌜ r ≡ blocksOf 15 key (now (head .entry) ++ now (body .entry)) counter first last ⌝ }
@@ -139,6 +140,7 @@ fn block_bytes(w: [u32; 16]) -> [u8; 64]
     out
 }
 
+// The run of a parent's one block. A function of its own, since an array can be lent only once at a time.
 fn run_parent(key: [u32; 8], block: &[u8], root: u32) -> [u32; 8]
     requires { ⌜ (length (now block) ≤ 64) × (root ≤ 8) ⌝ }
     ensures { λ r. ⌜ r ≡ blocksOf 15 key (now (block .entry)) 0 parentFlag root ⌝ }
