@@ -4,7 +4,6 @@
 //! LENGTH bytes is cleared. `bench time WHAT SIZE`: the nanoseconds of a call of each of the three programs.
 //! The instructions of two runs that differ in TIMES are those of the calls alone.
 
-use std::arch::asm;
 use std::hint::black_box;
 use std::time::Instant;
 
@@ -82,15 +81,10 @@ fn verdicts(whose: &str, caveats: &str) -> Run {
     })
 }
 
-/// The one instruction by which the archive clears its work room.
+/// What the archive calls to clear its work room: C's `memset`.
 fn clearings(length: &str) -> Run {
-    let length: usize = length.parse().expect("LENGTH is a number");
-    let mut room = vec![1u8; length];
-    run_of(move || {
-        let at = black_box(&mut room).as_mut_ptr();
-        // SAFETY: the room is `length` bytes long.
-        unsafe { asm!("rep stosb", inout("rcx") length => _, inout("rdi") at => _, in("al") 0u8) };
-    })
+    let mut room = vec![1u8; length.parse().expect("LENGTH is a number")];
+    run_of(move || black_box(&mut room).fill(0))
 }
 
 fn of(what: &str, whose: &str, size: &str) -> Run {
