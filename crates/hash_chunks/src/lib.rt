@@ -1,5 +1,5 @@
 // The chunks and parents of BLAKE3's tree in keyed mode. A chunk lies in two parts, which are lent block by
-// block and never joined; only the block where they meet is laid together.
+// block and never joined; only a block that reaches into the first is laid together.
 ghost use mathlib.Core.Path.{_≡_};
 ghost use mathlib.Core.List.{_++_};
 ghost use Prim.Native.Nat.{_<_, _≤_, _+_};
@@ -55,7 +55,7 @@ fn block_words(s: &[u8]) -> [u32; 16]
     w
 }
 
-// The words of one block that is short or crosses from head to body: it goes through 64 bytes of its own.
+// The words of one block that is short or reaches into the head: it goes through 64 bytes of its own.
 fn block(head: &[u8], body: &[u8]) -> [u32; 16]
     requires { ⌜ length (now head) + length (now body) ≤ 64 ⌝ }
     ensures { λ r. ⌜ r ≡ wordsOf 16 (now (head .entry) ++ now (body .entry)) ⌝ }
@@ -170,6 +170,6 @@ pub fn parent(key: [u32; 8], a: [u32; 8], b: [u32; 8], root: u32) -> [u32; 8]
         b[6],
         b[7],
     ];
-    let b = block_bytes(both);
-    run_parent(key, &b, root)
+    let block = block_bytes(both);
+    run_parent(key, &block, root)
 }

@@ -52,7 +52,7 @@ fn columns(v: [u32; 16], m: [u32; 16], o: [usize; 16]) -> [u32; 16]
     requires { ⌜ InBlock o ⌝ }
     ensures { λ r. ⌜ r ≡ columnsOf v (pickedOf m o) ⌝ }
 {
-    // In which order the four are mixed is free: in this one the compiler spills least (docs/changes/M-102.md).
+    // In which order the four are mixed is free: in this one the compiler spills little (docs/changes/M-102.md).
     let r = mix(v[2], v[6], v[10], v[14], m[o[4]], m[o[5]]);
     let p = mix(v[0], v[4], v[8], v[12], m[o[0]], m[o[1]]);
     let s = mix(v[3], v[7], v[11], v[15], m[o[6]], m[o[7]]);
