@@ -53,7 +53,8 @@ chainTag key token = tagOf key (token .tid) (token .kid) (encodeScope (token .sc
 abbrev pub keyFor : List Row → Token → List ℕ
 keyFor rows token = keyIn rows (token .tid) (token .kid)
 
--- "the request's method is in methods; its path starts with prefix, if there is one; body size is at most max_bytes, if there is one"
+-- "the request's method is in methods; its path starts with prefix, if there is one; body size is at most max_bytes, if there is one";
+-- 02, M-100, for "starts with": "a prefix fits a path if .."
 abbrev pub methodHolds : Request → Scope → Bool
 methodHolds asked scope = memberOf (asked .method) (scope .methods)
 

@@ -1,5 +1,5 @@
-// Runs document 01's examples that verify can show: for each a line that says "allow", or "deny " and
-// the name of the reason.
+// Runs document 01's examples that verify can show, and document 02's of a prefix and a path: for each a line
+// that says "allow", or "deny " and the name of the reason.
 //
 // All bytes stand here as document 01's rules make them, written without the product's code. A token's
 // tag is the last link of document 01's chain, hashed by the official b3sum --keyed under the key that ends
@@ -187,6 +187,91 @@ fn prefixes() {
     show_beside(b"path_prefix /o/b3:abcd, path /o/b3:abc: ", caveat);
 }
 
+// A path beside the prefix /relay/1, in the scope and then in a caveat.
+fn show_relay(path: &[u8], request: &[u8]) {
+    io::write_all(STDOUT_FILENO, b"scope prefix /relay/1, path ");
+    io::write_all(STDOUT_FILENO, path);
+    show_asked(
+        b": ",
+        request,
+        b"pmFjgGFyomZwcmVmaXhoL3JlbGF5LzFnbWV0aG9kc4FjR0VUYXNYIHUAe2Pan7EazGGI9e2FJLnOXnC4DkPTd1r8EvkmCcG3YXYBY2tpZGtraWQtMjAyNS0xMGN0aWRodGVuYW50LTE",
+    );
+    io::write_all(STDOUT_FILENO, b"path_prefix /relay/1, path ");
+    io::write_all(STDOUT_FILENO, path);
+    show_asked(
+        b": ",
+        request,
+        b"pmFjgaJhdGtwYXRoX3ByZWZpeGF2aC9yZWxheS8xYXKhZ21ldGhvZHOBY0dFVGFzWCAsHbBsMTFTTCkhG40w42XAH-N9F5I7_rftVBwqp0ueVGF2AWNraWRra2lkLTIwMjUtMTBjdGlkaHRlbmFudC0x",
+    );
+}
+
+// Document 02's cases (M-100), and a next byte that is neither of these.
+fn relays() {
+    show_relay(
+        b"/relay/1",
+        b"\0\0\0\0\0\0\0\0\
+          \0\0\0\0\0\0\0\0\
+          \x2c\x01\0\
+          \x03\0GET\x08\0/relay/1\x08\0tenant-1",
+    );
+    show_relay(
+        b"/relay/1/count",
+        b"\0\0\0\0\0\0\0\0\
+          \0\0\0\0\0\0\0\0\
+          \x2c\x01\0\
+          \x03\0GET\x0e\0/relay/1/count\x08\0tenant-1",
+    );
+    show_relay(
+        b"/relay/12",
+        b"\0\0\0\0\0\0\0\0\
+          \0\0\0\0\0\0\0\0\
+          \x2c\x01\0\
+          \x03\0GET\x09\0/relay/12\x08\0tenant-1",
+    );
+    show_relay(
+        b"/relay/1?n=2",
+        b"\0\0\0\0\0\0\0\0\
+          \0\0\0\0\0\0\0\0\
+          \x2c\x01\0\
+          \x03\0GET\x0c\0/relay/1?n=2\x08\0tenant-1",
+    );
+    show_relay(
+        b"/relay/1#n",
+        b"\0\0\0\0\0\0\0\0\
+          \0\0\0\0\0\0\0\0\
+          \x2c\x01\0\
+          \x03\0GET\x0a\0/relay/1#n\x08\0tenant-1",
+    );
+}
+
+// A prefix that ends in "/".
+fn slashes() {
+    show_asked(
+        b"scope prefix /relay/1/, path /relay/1: ",
+        b"\0\0\0\0\0\0\0\0\
+          \0\0\0\0\0\0\0\0\
+          \x2c\x01\0\
+          \x03\0GET\x08\0/relay/1\x08\0tenant-1",
+        b"pmFjgGFyomZwcmVmaXhpL3JlbGF5LzEvZ21ldGhvZHOBY0dFVGFzWCA61mVTWqMRJclOpndsh1_QewHS4C6weHFmH4uCsc8ANWF2AWNraWRra2lkLTIwMjUtMTBjdGlkaHRlbmFudC0x",
+    );
+    show_asked(
+        b"scope prefix /relay/1/, path /relay/1/count: ",
+        b"\0\0\0\0\0\0\0\0\
+          \0\0\0\0\0\0\0\0\
+          \x2c\x01\0\
+          \x03\0GET\x0e\0/relay/1/count\x08\0tenant-1",
+        b"pmFjgGFyomZwcmVmaXhpL3JlbGF5LzEvZ21ldGhvZHOBY0dFVGFzWCA61mVTWqMRJclOpndsh1_QewHS4C6weHFmH4uCsc8ANWF2AWNraWRra2lkLTIwMjUtMTBjdGlkaHRlbmFudC0x",
+    );
+    show_asked(
+        b"scope prefix /, path /relay/12: ",
+        b"\0\0\0\0\0\0\0\0\
+          \0\0\0\0\0\0\0\0\
+          \x2c\x01\0\
+          \x03\0GET\x09\0/relay/12\x08\0tenant-1",
+        b"pmFjgGFyomZwcmVmaXhhL2dtZXRob2RzgWNHRVRhc1ggo2KFkeF0Xd2sIC8RyUYeAxIpDHH7hgKbzrfRivnt5EphdgFja2lka2tpZC0yMDI1LTEwY3RpZGh0ZW5hbnQtMQ",
+    );
+}
+
 fn methods() {
     show_token(
         b"no methods in the scope: ",
@@ -256,6 +341,8 @@ fn main() {
     expiries();
     addresses();
     prefixes();
+    relays();
+    slashes();
     methods();
     sample();
     keys_and_tags();

@@ -1,37 +1,18 @@
--- What the rules' words say: "starts with", "in the list", "first n bits agree", and sums that cannot wrap.
-use mathlib.Core.Path.{_≡_, refl, sym, ap, ap₂, _∙_}
-use mathlib.Core.Bool.{Bool, true, false}
-use mathlib.Core.List.{List, [], _∷_, _++_}
+-- What the rules' words say: "in the list", "first n bits agree", and sums that cannot wrap. "Fits" is FittingLaws of `rules_compare`.
+use mathlib.Core.Path.{_≡_, refl, sym, ap, _∙_}
+use mathlib.Core.Bool.{true, false}
+use mathlib.Core.List.{List, []}
 use mathlib.Core.Option.{some, none}
 use Prim.Native.Nat.{ℕ, zero, suc, _+_, _^_, _<_}
 use native.Mathlib.Omega.{arith}
-use borrow.Author.Tests.{eqb-true, eq-eqb, le-leb}
-use lib.Dec.{eqb}
-use lib.ListN.{length, drop}
-use Rattle.basis.specs.Basis.{pick, IsBytes}
+use borrow.Author.Tests.{le-leb}
+use Rattle.basis.specs.Basis.{IsBytes}
 use Rattle.token_cidr.specs.Prefixes.{Prefix, GoodPrefix}
 use Rattle.token_cidr.specs.Bits.{Agree, agreeOf}
 use Rattle.token_cidr.proofs.BitLaws.{agree-bits, bits-agree}
 use Rattle.token_caveat.specs.Caveats.{exp, method, ip-cidr}
 use Rattle.records_request.specs.Requests.{Request}
 use Rattle.rules.specs.Holding.{memberOf, onlyThere, addressBytes, caveatHolds}
-use Rattle.rules_compare.specs.Fitting.{fitsOf}
-
--- a prefix fits a path exactly when the path is the prefix and something behind it
-pub starts-fits : (p t : List ℕ) → fitsOf p (p ++ t) ≡ true
-unfolding fitsOf
-starts-fits [] t = refl
-starts-fits (a ∷ p) t = rw (eq-eqb a a refl) (starts-fits p t)
-
-pub fits-starts : (p t : List ℕ) → fitsOf p t ≡ true → t ≡ p ++ drop (length p) t
-unfolding fitsOf
-fits-starts [] t e = refl
-fits-starts (a ∷ p) [] e = let n : _≡_ {A = ℕ} 0 1 = cc in let z : ⊥ = omega arith in elim z [ ]
-fits-starts (a ∷ p) (b ∷ t) e = by (eqb a b) refl e (fits-starts p t)
-  where
-    by : (u : Bool) → eqb a b ≡ u → pick u (fitsOf p t) false ≡ true → (fitsOf p t ≡ true → t ≡ p ++ drop (length p) t) → b ∷ t ≡ a ∷ (p ++ drop (length p) t)
-    by true q f m = ap₂ _∷_ (sym (eqb-true a b q)) (m f)
-    by false q f m = let n : _≡_ {A = ℕ} 0 1 = cc in let z : ⊥ = omega arith in elim z [ ]
 
 -- 01, "Errors we have met": "An empty method list taken as "any"."
 pub empty-holds-nothing : (r : Request) (tid : List ℕ) → caveatHolds r tid (method []) ≡ false

@@ -1,5 +1,6 @@
 -- Meaning. What holds when, on trees. Document 01, "What holds when": "Scope: the request's method is in methods; its path starts with
--- prefix, if there is one; body size is at most max_bytes, if there is one. Caveats, with whole-number sums: ..".
+-- prefix, if there is one; body size is at most max_bytes, if there is one. Caveats, with whole-number sums: ..". For "starts with", of
+-- the scope and of path_prefix, document 02's M-100 stands: "a prefix fits a path if ..", which is `fitsOf`.
 use mathlib.Core.Bool.{Bool, true, false}
 use mathlib.Core.List.{List, [], _∷_}
 use mathlib.Core.Option.{Option, some, none}

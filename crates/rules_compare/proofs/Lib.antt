@@ -1,2 +1,4 @@
+pub mod FittingLaws
+pub mod FittingCases
 pub mod Walks
 pub mod OneAnswer

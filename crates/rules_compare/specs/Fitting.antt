@@ -1,12 +1,37 @@
--- Meaning. Document 01, "What holds when": "its path starts with prefix".
-use mathlib.Core.Bool.{Bool, true, false}
-use mathlib.Core.List.{List, [], _∷_}
-use Prim.Native.Nat.{ℕ}
+-- Meaning. Document 02, M-100: "a prefix fits a path if they are equal, or the path begins with the prefix and either the prefix ends in "/"
+-- or the next path byte is "/". It applies to the scope and to path_prefix." It replaces document 01's "starts with".
+use mathlib.Core.Path.{_≡_}
+use mathlib.Core.Bool.{Bool, true, false, _&&_, _||_}
+use mathlib.Core.List.{List, [], _∷_, _++_}
+use Prim.Native.Nat.{ℕ, _-_}
 use lib.Dec.{eqb}
+use lib.ListN.{length, getD}
 use Rattle.basis.specs.Basis.{pick}
+use Rattle.basis.specs.Same.{sameOf}
 
--- "the path starts with it": the prefix fits, byte by byte
+-- "/"
+abbrev pub slash : ℕ
+slash = 47
+
+-- "the path begins with the prefix", byte by byte
+unfoldable pub starts : List ℕ → List ℕ → Bool
+starts [] path = true
+starts (a ∷ p) [] = false
+starts (a ∷ p) (b ∷ t) = pick (eqb a b) (starts p t) false
+
+-- "the prefix ends in "/""; one of no bytes does not
+unfoldable pub endsInSlash : List ℕ → Bool
+endsInSlash prefix = eqb (getD prefix (length prefix - 1) 0) slash
+
+-- "the next path byte is "/"": the first one behind the prefix; a path without one has none
+unfoldable pub nextIsSlash : List ℕ → List ℕ → Bool
+nextIsSlash prefix path = eqb (getD path (length prefix) 0) slash
+
 unfoldable pub fitsOf : List ℕ → List ℕ → Bool
-fitsOf [] path = true
-fitsOf (a ∷ p) [] = false
-fitsOf (a ∷ p) (b ∷ t) = pick (eqb a b) (fitsOf p t) false
+fitsOf prefix path = sameOf prefix path || (starts prefix path && (endsInSlash prefix || nextIsSlash prefix path))
+
+-- the same of whole lists; that it is the same is `fits-exactly` of proofs/FittingLaws.antt
+pub data Fits (prefix path : List ℕ) : Type 0 where
+  equal : path ≡ prefix → Fits prefix path
+  slash-next : (rest : List ℕ) → path ≡ prefix ++ (slash ∷ rest) → Fits prefix path
+  slash-last : (front rest : List ℕ) → prefix ≡ front ++ (slash ∷ []) → path ≡ prefix ++ rest → Fits prefix path

@@ -15,8 +15,8 @@ ghost use Rattle.rules_compare.specs.Fitting.{fitsOf};
 ghost use Rattle.rules_compare.specs.Comparing.{memberIn, rateHolds, prefixFits, limitHolds};
 ghost use Rattle.rules_compare.specs.Comparing.{partIs, peerAgrees};
 
-// Whether a path starts with a prefix. The loop goes on behind a byte that differs, so that the compiler
-// takes many at a time.
+// Whether a prefix fits a path. The loop goes on behind a byte that differs, so that the compiler takes many
+// at a time, and keeps the prefix's last byte, so that none is read again.
 pub fn fits(prefix: &[u8], path: &[u8]) -> bool
     ensures { λ r. ⌜ r ≡ fitsOf (now (prefix .entry)) (now (path .entry)) ⌝ }
 {
@@ -24,14 +24,25 @@ pub fn fits(prefix: &[u8], path: &[u8]) -> bool
         return false;
     }
     let mut fitting = true;
+    let mut last: u8 = 0;
     let mut i: usize = 0;
     while i < prefix.len() {
-        if prefix[i] != path[i] {
+        last = prefix[i];
+        if last != path[i] {
             fitting = false;
         }
         i += 1;
     }
-    fitting
+    if i == path.len() {
+        return fitting;
+    }
+    if last == b'/' {
+        return fitting;
+    }
+    if path[i] == b'/' {
+        return fitting;
+    }
+    false
 }
 
 // Whether a method is one of a list.

@@ -1,0 +1,121 @@
+-- What "fits" says (document 02, M-100): exactly three kinds of path, and a prefix under another one never fits a path that the other does not.
+use mathlib.Core.Path.{_≡_, refl, sym, ap, ap₂, subst, _∙_}
+use mathlib.Core.Bool.{Bool, true, false, _&&_, _||_, or-true, false≢true}
+use mathlib.Core.List.{List, [], _∷_, _++_, append-assoc, append-nil}
+use Prim.Native.Nat.{ℕ, suc, _-_}
+use native.Mathlib.Omega.{arith}
+use borrow.Author.Tests.{ltb-true, ltb-false, eqb-true, eq-eqb}
+use lib.Dec.{eqb, ltb}
+use lib.ListN.{length, take, drop, getD, length-append, drop-of-length-le, List·getD-eq-default}
+use lib.Seq.{drop-cons, split-at, getD-append-seam}
+use Rattle.basis.specs.Basis.{pick, ascii}
+use Rattle.basis.specs.Same.{sameOf}
+use Rattle.basis.proofs.Sameness.{same-equal, equal-same}
+use Rattle.cbor_strings.specs.Strings.{isPrintable, allOf, contentOf}
+use Rattle.cbor_strings.specs.declared.Class.the-variants.{Path}
+use Rattle.rules_compare.specs.Fitting.{slash, starts, endsInSlash, nextIsSlash, fitsOf, Fits, equal, slash-next, slash-last}
+
+-- a path begins with a prefix exactly when it is the prefix and something behind it
+starts-behind : (p t : List ℕ) → starts p (p ++ t) ≡ true
+unfolding starts
+starts-behind [] t = refl
+starts-behind (a ∷ p) t = rw (eq-eqb a a refl) (starts-behind p t)
+
+behind-starts : (p t : List ℕ) → starts p t ≡ true → t ≡ p ++ drop (length p) t
+unfolding starts
+behind-starts [] t e = refl
+behind-starts (a ∷ p) [] e = absurd (false≢true e)
+behind-starts (a ∷ p) (b ∷ t) e = by (eqb a b) refl e (behind-starts p t)
+  where
+    by : (u : Bool) → eqb a b ≡ u → pick u (starts p t) false ≡ true → (starts p t ≡ true → t ≡ p ++ drop (length p) t) → b ∷ t ≡ a ∷ (p ++ drop (length p) t)
+    by true q f m = ap₂ _∷_ (sym (eqb-true a b q)) (m f)
+    by false q f m = absurd (false≢true f)
+
+-- "ends in "/"", and "the next path byte is "/""
+ends-slash : (front : List ℕ) → endsInSlash (front ++ (slash ∷ [])) ≡ true
+unfolding endsInSlash
+ends-slash front =
+    let z : length (front ++ (slash ∷ [])) - 1 ≡ length front = omega (arith, length-append front (slash ∷ [])) in
+    rw (z, getD-append-seam front slash [] 0)
+
+slash-ends : (p : List ℕ) → endsInSlash p ≡ true → p ≡ take (length p - 1) p ++ (slash ∷ [])
+unfolding endsInSlash
+slash-ends [] e = absurd (false≢true e)
+slash-ends (a ∷ p) e =
+    let whole = a ∷ p in
+    let at = length whole - 1 in
+    rw (eqb-true (getD whole at 0) slash e, drop-of-length-le whole {i = suc at} (omega arith)) at (split-at whole at 0 (omega arith))
+
+next-slash : (p rest : List ℕ) → nextIsSlash p (p ++ (slash ∷ rest)) ≡ true
+unfolding nextIsSlash
+next-slash p rest = rw (getD-append-seam p slash rest 0)
+
+slash-nexts : (p t : List ℕ) → nextIsSlash p t ≡ true → drop (length p) t ≡ slash ∷ drop (suc (length p)) t
+unfolding nextIsSlash
+slash-nexts p t e = by (ltb (length p) (length t)) refl
+  where
+    at-slash : getD t (length p) 0 ≡ slash
+    at-slash = eqb-true (getD t (length p) 0) slash e
+
+    by : (u : Bool) → ltb (length p) (length t) ≡ u → drop (length p) t ≡ slash ∷ drop (suc (length p)) t
+    by true h = rw at-slash at (drop-cons t (length p) 0 (ltb-true (length p) (length t) h))
+    by false h = let z : ⊥ = omega (arith, at-slash, List·getD-eq-default t 0 {n = length p} (ltb-false (length p) (length t) h)) in elim z [ ]
+
+-- "a prefix fits a path if they are equal, or the path begins with the prefix and either the prefix ends in "/" or the next path byte is "/""
+fits-then : (p t : List ℕ) → starts p t ≡ true → endsInSlash p || nextIsSlash p t ≡ true → fitsOf p t ≡ true
+unfolding fitsOf
+fits-then p t s e = rw (s, e, or-true (sameOf p t))
+
+module _ (p t : List ℕ) where
+  edge : (u : Bool) → endsInSlash p ≡ u → u || nextIsSlash p t ≡ true → t ≡ p ++ drop (length p) t → Fits p t
+  edge true e f h = slash-last (take (length p - 1) p) (drop (length p) t) (slash-ends p e) h
+  edge false e f h = slash-next (drop (suc (length p)) t) (h ∙ ap (λ (r : List ℕ). p ++ r) (slash-nexts p t f))
+
+  begun : (u : Bool) → starts p t ≡ u → u && (endsInSlash p || nextIsSlash p t) ≡ true → Fits p t
+  begun true e f = edge (endsInSlash p) refl f (behind-starts p t e)
+  begun false e f = absurd (false≢true f)
+
+  fitted : (u : Bool) → sameOf p t ≡ u → u || (starts p t && (endsInSlash p || nextIsSlash p t)) ≡ true → Fits p t
+  fitted true e f = equal (sym (same-equal p t e))
+  fitted false e f = begun (starts p t) refl f
+
+  only-fits : fitsOf p t ≡ true → Fits p t
+  unfolding fitsOf
+  only-fits f = fitted (sameOf p t) refl f
+
+  does-fit : Fits p t → fitsOf p t ≡ true
+  unfolding fitsOf
+  does-fit (equal e) = rw (equal-same p t (sym e))
+  does-fit (slash-next rest e) = subst (λ (t : List ℕ). fitsOf p t ≡ true) (sym e) (fits-then p _ (starts-behind p _) (rw (next-slash p rest, or-true (endsInSlash p))))
+  does-fit (slash-last front rest d e) = subst (λ (t : List ℕ). fitsOf p t ≡ true) (sym e) (fits-then p _ (starts-behind p rest) (rw (d, ends-slash front)))
+
+pub fits-exactly : (prefix path : List ℕ) → (fitsOf prefix path ≡ true → Fits prefix path) × (Fits prefix path → fitsOf prefix path ≡ true)
+fits-exactly prefix path = (only-fits prefix path, does-fit prefix path)
+
+-- "/" fits every path that a request may have
+pub root-fits : (path : List ℕ) → contentOf Path path ≡ true → fitsOf (ascii "/") path ≡ true
+unfolding contentOf
+root-fits [] e = absurd (false≢true e)
+root-fits (a ∷ t) e = does-fit (ascii "/") (a ∷ t) (slash-last [] t refl (ap (λ (x : ℕ). x ∷ t) (eqb-true a slash (by (eqb a slash) e))))
+  where
+    by : (u : Bool) → u && allOf isPrintable (a ∷ t) ≡ true → u ≡ true
+    by true f = refl
+    by false f = absurd (false≢true f)
+
+-- a prefix under another one never widens: what a longer prefix fits, the shorter that fits it fits too
+goes-on : {p t : List ℕ} → Fits p t → (rest : List ℕ) × (t ≡ p ++ rest)
+goes-on {p} {t} (equal e) = ([], e ∙ sym (append-nil p))
+goes-on {p} {t} (slash-next rest e) = (slash ∷ rest, e)
+goes-on {p} {t} (slash-last front rest d e) = (rest, e)
+
+still-fits : {p q : List ℕ} (t : List ℕ) → Fits p q → Fits q t → Fits p t
+still-fits t (equal e) g = subst (λ (x : List ℕ). Fits x t) e g
+still-fits {p} t (slash-next rest e) g =
+    let on = goes-on g in
+    slash-next (rest ++ on .0) (on .1 ∙ ap (λ (x : List ℕ). x ++ on .0) e ∙ append-assoc p (slash ∷ rest) (on .0))
+still-fits {p} t (slash-last front rest d e) g =
+    let on = goes-on g in
+    slash-last front (rest ++ on .0) d (on .1 ∙ ap (λ (x : List ℕ). x ++ on .0) e ∙ append-assoc p rest (on .0))
+
+pub fits-narrows : (p q path : List ℕ) → fitsOf p q ≡ true → fitsOf q path ≡ true → fitsOf p path ≡ true
+fits-narrows p q path f g = does-fit p path (still-fits path (only-fits p q f) (only-fits q path g))
