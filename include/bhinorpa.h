@@ -38,7 +38,7 @@ enum bhinorpa_answer {
     BHINORPA_MAC_MISMATCH = 8,           /* mac.mismatch: the tag is not that of this token under that key */
     BHINORPA_TENANT_MISMATCH = 9,        /* tenant.mismatch: the request is another tenant's */
     BHINORPA_CAVEAT_METHOD = 10,         /* caveat.method: scope or caveat does not list the method */
-    BHINORPA_CAVEAT_PATH = 11,           /* caveat.path: the path does not start as scope or caveat asks */
+    BHINORPA_CAVEAT_PATH = 11,           /* caveat.path: the prefix of scope or caveat does not fit the path */
     BHINORPA_CAVEAT_BYTES = 12,          /* caveat.bytes: the body is larger than scope or caveat allows */
     BHINORPA_CAVEAT_EXP = 13,            /* caveat.exp: expired, the skew included */
     BHINORPA_CAVEAT_NBF = 14,            /* caveat.nbf: not valid yet, the skew included */
@@ -201,6 +201,11 @@ static inline const char *bhinorpa_name(uint32_t answer)
  * Reasons are looked for in the order of their numbers up to 12, but for a text that is too long, which
  * comes before BHINORPA_PARSE_B64, and for the first defect of the token, which is 4, 5 or 6 by what it
  * is; then come the caveats in the token's order, each with its own number.
+ *
+ * A prefix, the scope's or that of a path_prefix caveat, fits the path that it is, and a path that begins
+ * with it where a "/" is the prefix's last byte or the path's next one. So /relay/1 fits /relay/1 and
+ * /relay/1/count, but not /relay/12; /relay/1/ does not fit /relay/1; / fits every path. Bytes are compared
+ * as they are: to the library, ? and # are bytes of a path like others.
  *
  * The call keeps nothing from one time to the next and only reads the three ranges. It looks at no clock:
  * the time is what the request says, and a rate is compared with the one that the request states, not

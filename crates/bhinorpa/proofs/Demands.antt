@@ -2,7 +2,8 @@
 use Rattle.bhinorpa.specs.Demands.{VerifyList, IssueList, NarrowList, RefusalWritesNothing}
 use Rattle.bhinorpa.specs.Demands.{AllowedExactly, FirstFailing, VerdictOne, DefectNoToken}
 use Rattle.bhinorpa.specs.Demands.{IssueFirstFailing, IssueVerdictOne, IdsOfRows, IssueRefusals, NarrowFirstFailing, NarrowVerdictOne}
-use Rattle.bhinorpa.specs.Demands.{IssueWrites, NarrowWrites, Rebuilt, RoomEnough, NarrowingExact, NarrowingRefusals, FirstBits, NoPeer}
+use Rattle.bhinorpa.specs.Demands.{IssueWrites, NarrowWrites, Rebuilt, RoomEnough, NarrowingExact, NarrowingRefusals, FirstBits, NoPeer, FitsExactly, FitsNarrows}
+use Rattle.rules_compare.proofs.FittingLaws as fitting
 use Rattle.bhinorpa.proofs.Rooms as rooms
 use Rattle.bhinorpa.proofs.Texts as texts
 use Rattle.bhinorpa.proofs.DemandsVerify as verify
@@ -34,6 +35,8 @@ pub record Demands : Type 0 where
   pub narrowing-refusals : NarrowingRefusals
   pub first-bits : FirstBits
   pub no-peer : NoPeer
+  pub fits-exactly : FitsExactly
+  pub fits-narrows : FitsNarrows
 
 pub demands : Demands
 demands = record {
@@ -59,4 +62,6 @@ demands = record {
   narrowing-refusals = narrow.narrowing-refusals;
   first-bits = verify.first-bits;
   no-peer = verify.no-peer;
+  fits-exactly = fitting.fits-exactly;
+  fits-narrows = fitting.fits-narrows;
 }

@@ -21,6 +21,7 @@ use Rattle.token_caveat.specs.Caveats.{Caveat, ip-cidr}
 use Rattle.token.specs.Tokens.{Token, encodeToken}
 use Rattle.records_table.specs.Tables.{Row, GoodTable, hasRow}
 use Rattle.records_request.specs.Requests.{Request}
+use Rattle.rules_compare.specs.Fitting.{fitsOf, Fits}
 use Rattle.rules.specs.Holding.{addressBytes, caveatHolds}
 use Rattle.verify.specs.Verifying.{verifyOf}
 use Rattle.outcome.specs.Decisions.{Decision, Carried}
@@ -158,3 +159,12 @@ FirstBits =
 
 abbrev pub NoPeer : Type 0
 NoPeer = (asked : Request) (tid : List ℕ) (prefix : Prefix) → asked .peer ≡ none → caveatHolds asked tid (ip-cidr prefix) ≡ false
+
+-- Document 02, M-100: "a prefix fits a path if they are equal, or the path begins with the prefix and either the prefix ends in "/" or the
+-- next path byte is "/""
+abbrev pub FitsExactly : Type 0
+FitsExactly = (prefix path : List ℕ) → (fitsOf prefix path ≡ true → Fits prefix path) × (Fits prefix path → fitsOf prefix path ≡ true)
+
+-- so a prefix under another one never widens
+abbrev pub FitsNarrows : Type 0
+FitsNarrows = (prefix longer path : List ℕ) → fitsOf prefix longer ≡ true → fitsOf longer path ≡ true → fitsOf prefix path ≡ true

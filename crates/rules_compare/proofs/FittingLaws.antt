@@ -102,12 +102,16 @@ root-fits (a ∷ t) e = does-fit (ascii "/") (a ∷ t) (slash-last [] t refl (ap
     by true f = refl
     by false f = absurd (false≢true f)
 
--- a prefix under another one never widens: what a longer prefix fits, the shorter that fits it fits too
 goes-on : {p t : List ℕ} → Fits p t → (rest : List ℕ) × (t ≡ p ++ rest)
 goes-on {p} {t} (equal e) = ([], e ∙ sym (append-nil p))
 goes-on {p} {t} (slash-next rest e) = (slash ∷ rest, e)
 goes-on {p} {t} (slash-last front rest d e) = (rest, e)
 
+-- what fits begins with the prefix, as document 01 asked: no token allows more than it did
+pub fits-starts : (prefix path : List ℕ) → fitsOf prefix path ≡ true → starts prefix path ≡ true
+fits-starts prefix path f = let on = goes-on (only-fits prefix path f) in subst (λ (t : List ℕ). starts prefix t ≡ true) (sym (on .1)) (starts-behind prefix (on .0))
+
+-- a prefix under another one never widens: what the longer fits, the one that fits the longer fits too
 still-fits : {p q : List ℕ} (t : List ℕ) → Fits p q → Fits q t → Fits p t
 still-fits t (equal e) g = subst (λ (x : List ℕ). Fits x t) e g
 still-fits {p} t (slash-next rest e) g =
@@ -117,5 +121,5 @@ still-fits {p} t (slash-last front rest d e) g =
     let on = goes-on g in
     slash-last front (rest ++ on .0) d (on .1 ∙ ap (λ (x : List ℕ). x ++ on .0) e ∙ append-assoc p rest (on .0))
 
-pub fits-narrows : (p q path : List ℕ) → fitsOf p q ≡ true → fitsOf q path ≡ true → fitsOf p path ≡ true
-fits-narrows p q path f g = does-fit p path (still-fits path (only-fits p q f) (only-fits q path g))
+pub fits-narrows : (prefix longer path : List ℕ) → fitsOf prefix longer ≡ true → fitsOf longer path ≡ true → fitsOf prefix path ≡ true
+fits-narrows prefix longer path f g = does-fit prefix path (still-fits path (only-fits prefix longer f) (only-fits longer path g))

@@ -129,7 +129,7 @@ pub fn of_length(length: usize, seeded: &mut Seeded) -> Case {
         now: 1 << 40,
         body_size: 70_000,
         rate: Some(Rate { per_s: 300, burst: 70_000 }),
-        path: b"/relay/counter".repeat(64),
+        path: b"/7".repeat(448),
         ..requests::flagged(30, seeded)
     };
     let mut case = fitting_for(request, 0, seeded);
@@ -139,22 +139,25 @@ pub fn of_length(length: usize, seeded: &mut Seeded) -> Case {
     case
 }
 
-/// Adds caveats on the path until the token has exactly this many bytes; the last two make it so.
+/// Adds caveats on the path until the token has exactly this many bytes; the last two make it so. The path's
+/// segments are short, so that prefixes of nearly any length fit it.
 pub fn fill(case: &mut Case, length: usize) {
     let path = case.request.path.clone();
-    let caveat = |length: usize| caveat_of("path_prefix", Node::text(&path[..length]));
+    let (fit, _) = fitting::lengths(&path);
+    let caveat = |at: usize| caveat_of("path_prefix", Node::text(&path[..fit[at]]));
+    let long = fit.iter().rposition(|&length| length <= 200).expect("a prefix of one byte");
     while case.length() + 500 < length {
-        case.caveats.push(caveat(200));
+        case.caveats.push(caveat(long));
     }
-    let sizes: Vec<usize> = (1..=256).map(|length| caveat(length).laid().len()).collect();
+    let sizes: Vec<usize> = (0..fit.len()).map(|at| caveat(at).laid().len()).collect();
     // What two caveats of the shortest prefix leave, and what they take themselves.
-    case.caveats.extend([caveat(1), caveat(1)]);
+    case.caveats.extend([caveat(0), caveat(0)]);
     let left = length - case.length() + 2 * sizes[0];
     case.caveats.truncate(case.caveats.len() - 2);
     let second = |first: usize| sizes.iter().position(|second| sizes[first] + second == left);
     let (first, second) =
         (0..sizes.len()).find_map(|first| Some((first, second(first)?))).expect("two prefixes of that size");
-    case.caveats.extend([caveat(first + 1), caveat(second + 1)]);
+    case.caveats.extend([caveat(first), caveat(second)]);
     assert_eq!(case.length(), length);
 }
 

@@ -58,19 +58,35 @@ fn methods_without(request: &Request, seeded: &mut Seeded) -> Node {
     Node::array((0..count).map(|_| Node::text(&near[seeded.below(3)])).collect())
 }
 
-/// The first bytes of the path: one, all or nearly all that a prefix may have, or any number.
+/// How many of a path's first bytes may be a prefix, those that fit it and those that do not: it fits where
+/// the path ends, and where a "/" stands last or next.
+pub fn lengths(path: &[u8]) -> (Vec<usize>, Vec<usize>) {
+    let at_edge = |&n: &usize| n == path.len() || path[n - 1..=n].contains(&b'/');
+    (1..=path.len().min(PREFIX)).partition(at_edge)
+}
+
+/// The longest prefix that fits a path.
+fn longest_prefix(path: &[u8]) -> &[u8] {
+    let (fit, _) = lengths(path);
+    &path[..*fit.last().expect("a path begins with a slash, which fits it")]
+}
+
+/// The first bytes of the path, where a prefix may end: one, the most that there can be, or any number.
 fn prefix_of(request: &Request, seeded: &mut Seeded) -> Node {
-    let longest = request.path.len().min(PREFIX);
-    let length = one(vec![1, longest, longest, longest.max(2) - 1, 1 + seeded.below(longest)], seeded);
+    let (fit, _) = lengths(&request.path);
+    let longest = fit[fit.len() - 1];
+    let length = one(vec![fit[0], longest, longest, fit[seeded.below(fit.len())]], seeded);
     Node::text(&request.path[..length])
 }
 
-/// A prefix that the path does not start with: by its last byte or one in the middle, of which a letter
-/// only changes its case, or by one that the path does not have any more.
+/// A prefix that does not fit the path: the path goes on behind it within a segment; or its last byte or one
+/// in the middle is another one, of which a letter only changes its case; or the path is shorter.
 fn no_prefix_of(request: &Request, seeded: &mut Seeded) -> Node {
     let path = &request.path;
     let longest = path.len().min(PREFIX);
-    let mut prefixes = Vec::new();
+    let (_, cuts) = lengths(path);
+    let some = [cuts.first(), cuts.get(cuts.len() / 2), cuts.last()];
+    let mut prefixes: Vec<Vec<u8>> = some.into_iter().flatten().map(|&length| path[..length].to_vec()).collect();
     if path.len() < PREFIX {
         prefixes.push([path, &b"x"[..]].concat());
         prefixes.push([path, &b"/"[..]].concat());
@@ -200,7 +216,7 @@ pub fn narrowest(kind: usize, request: &Request) -> Option<Node> {
         "nbf" => Node::number(request.now.saturating_add(skew)),
         "aud" => Node::text(request.audience.as_ref()?),
         "method" => Node::array(vec![Node::text(&request.method)]),
-        "path_prefix" => Node::text(&request.path[..request.path.len().min(PREFIX)]),
+        "path_prefix" => Node::text(longest_prefix(&request.path)),
         "ip_cidr" => written_address(u32::from_be_bytes(request.peer?), 32),
         "bytes_le" => Node::number(request.body_size),
         "rate" => trees::rate(request.rate?.burst.into(), request.rate?.per_s.into()),
@@ -215,7 +231,7 @@ pub fn narrowest(kind: usize, request: &Request) -> Option<Node> {
 /// The narrowest scope, of all three keys.
 pub fn narrowest_scope(request: &Request) -> Node {
     Node::map(vec![
-        ("prefix", Node::text(&request.path[..request.path.len().min(PREFIX)])),
+        ("prefix", Node::text(longest_prefix(&request.path))),
         ("methods", Node::array(vec![Node::text(&request.method)])),
         ("max_bytes", Node::number(request.body_size)),
     ])

@@ -38,8 +38,10 @@ pub fn printable(most: usize, seeded: &mut Seeded) -> Vec<u8> {
     (0..length(most, seeded)).map(|_| b'!' + seeded.below(94) as u8).collect()
 }
 
+/// A path of many segments, since prefixes end where these do: a slash stands for each upper case letter.
 pub fn path(most: usize, seeded: &mut Seeded) -> Vec<u8> {
     let mut path = printable(most, seeded);
+    path.iter_mut().filter(|byte| byte.is_ascii_uppercase()).for_each(|byte| *byte = b'/');
     path[0] = b'/';
     path
 }

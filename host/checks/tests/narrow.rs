@@ -27,7 +27,7 @@ const COUNTS: usize = 4000;
 const CAVEATS: usize = 40_000;
 const PARENTS: usize = 20_000;
 const TABLES: usize = 7000;
-const SPOILED: usize = 10_000;
+const SPOILED: usize = 30_000;
 
 /// All of these together.
 const _: () = assert!(FAULTY + SETS + PAIRS + COUNTS + CAVEATS + PARENTS + TABLES + SPOILED >= 100_000);

@@ -1,5 +1,6 @@
-//! Document 01's examples about verify, and the sample of document 004 by document 01's rules. The bytes
-//! are written out here, so that nothing that makes other tests' inputs has a part in them.
+//! Document 01's examples about verify, document 02's of a prefix and a path, and the sample of document 004
+//! by document 01's rules. The bytes are written out here, so that nothing that makes other tests' inputs has
+//! a part in them.
 
 use archive::verify;
 use second::base64url;
@@ -105,6 +106,41 @@ fn a_prefix_holds_for_what_lies_under_it() {
         for (path, wanted) in [("/o/b3:abcd/some", 0), ("/o/b3:abcd", 0), ("/o/b3:abc", 11), ("/", 11)] {
             assert_eq!(verify(&table(), &request(0, path, None), &text), wanted, "{path}");
         }
+    }
+}
+
+/// What a prefix of fewer than 24 bytes answers for a path, the same in the scope, in a caveat and in both.
+fn fits(prefix: &str, path: &str) -> bool {
+    let said = [&[0x60 + prefix.len() as u8], prefix.as_bytes()].concat();
+    let scope = [b"\xa2\x66prefix", &said[..], b"\x67methods\x81\x63GET"].concat();
+    let caveat = [b"\xa2\x61t\x6bpath_prefix\x61v", &said[..]].concat();
+    let texts = [text(&scope, &[]), text(SCOPE, &[&caveat]), text(&scope, &[&caveat])];
+    let [first, others @ ..] = texts.map(|text| verify(&table(), &request(0, path, None), &text));
+    assert_eq!(others, [first; 2], "{prefix} {path}");
+    assert!(first == 0 || first == 11, "{prefix} {path}: {first}");
+    first == 0
+}
+
+#[test]
+fn relay_1_is_not_relay_12() {
+    assert!(fits("/relay/1", "/relay/1"));
+    assert!(fits("/relay/1", "/relay/1/count"));
+    assert!(fits("/relay/1", "/relay/1/"));
+    for path in ["/relay/12", "/relay/12/", "/relay/12/count", "/relay/1?n=2", "/relay/1#n", "/relay/1.", "/relay/"] {
+        assert!(!fits("/relay/1", path), "{path}");
+    }
+}
+
+#[test]
+fn a_prefix_that_ends_in_a_slash() {
+    for path in ["/relay/1/", "/relay/1/count", "/relay/1/?", "/relay/1//"] {
+        assert!(fits("/relay/1/", path), "{path}");
+    }
+    for path in ["/relay/1", "/relay/12", "/relay/12/", "/relay/"] {
+        assert!(!fits("/relay/1/", path), "{path}");
+    }
+    for path in ["/", "//", "/relay", "/relay/12", "/?", "/#"] {
+        assert!(fits("/", path), "{path}");
     }
 }
 

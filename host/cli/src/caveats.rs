@@ -30,7 +30,7 @@ const OPTIONS: [(&str, &str, &str, Read); 13] = [
     ("nbf", "TIME", "Holds from this second on, with the request's skew", seconds),
     ("aud", "TEXT", "Holds for this audience", text),
     ("method", "GET,PUT", "Holds for these methods; '' holds for none", methods),
-    ("path-prefix", "PATH", "Holds for paths that start so", text),
+    ("path-prefix", "PATH", "Holds for this path and those under it: /relay/1 is not for /relay/12", text),
     ("ip-cidr", "10.0.0.0/8", "Holds for peers in this network", text),
     ("bytes-le", "N", "Holds for bodies of up to so many bytes", number),
     ("rate", "PER_S,BURST", "Holds where the host states a rate, and none above this", rate),

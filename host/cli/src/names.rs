@@ -13,7 +13,7 @@ pub const ANSWERS: [(u32, &str, &str); 29] = [
     (8, "mac.mismatch", "the tag is not that of this token under the table's key"),
     (9, "tenant.mismatch", "the request is another tenant's"),
     (10, "caveat.method", "the method is not among those of scope or caveat"),
-    (11, "caveat.path", "the path does not start as scope or caveat asks"),
+    (11, "caveat.path", "the prefix of scope or caveat does not fit the path"),
     (12, "caveat.bytes", "the body is larger than scope or caveat allows"),
     (13, "caveat.exp", "the token has expired"),
     (14, "caveat.nbf", "the token is not valid yet"),

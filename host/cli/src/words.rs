@@ -153,7 +153,7 @@ pub struct ScopeWords {
     #[arg(long, value_name = "GET,PUT", help_heading = "Scope")]
     pub methods: Option<Methods>,
 
-    /// What paths must start with
+    /// The path that it is for, with those under it: /relay/1 is not for /relay/12
     #[arg(long, value_name = "PATH", help_heading = "Scope")]
     pub prefix: Option<String>,
 

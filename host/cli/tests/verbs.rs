@@ -129,7 +129,7 @@ const CAVEATS: [(&str, &str, &str, &str); 11] = [
     ("--nbf 2026-01-01T00:00:00Z", "--now 1767225600", "--now 1767225599", "caveat.nbf"),
     ("--aud relay-1", "--aud relay-1", "--aud relay-2", "caveat.aud"),
     ("--method PUT,GET", "--now 0", "--now 0 --method DELETE", "caveat.method"),
-    ("--path-prefix /relay/1/c", "--now 0", "--now 0 --path /relay/1/n", "caveat.path"),
+    ("--path-prefix /relay/1/count", "--now 0", "--now 0 --path /relay/1/counts", "caveat.path"),
     ("--ip-cidr 10.0.0.0/8", "--peer 10.255.255.255", "--peer 11.0.0.0", "caveat.ip"),
     ("--bytes-le 4294967296", "--body-size 4294967296", "--body-size 4294967297", "caveat.bytes"),
     ("--rate 5,10", "--rate 5,10", "--rate 5,11", "caveat.rate"),

@@ -1,5 +1,6 @@
-//! What holds when: document 01's sentences on scopes and caveats, one by one. Sums are of whole
-//! numbers, and a part that the request does not have fails every caveat that asks for it.
+//! What holds when: document 01's sentences on scopes and caveats, one by one, with document 02's M-100 on
+//! paths. Sums are of whole numbers, and a part that the request does not have fails every caveat that asks
+//! for it.
 
 use crate::caveat::Demand;
 use crate::cbor::{run, TEXT};
@@ -79,8 +80,12 @@ impl<'a> Asked<'a> {
         part.is_some_and(|part| self.stated(part) == self.said(said))
     }
 
+    /// Whether the path is the prefix, or goes on behind it where a "/" parts them: the prefix's last byte or
+    /// the next one.
     fn path_under(&self, prefix: Span) -> bool {
-        self.stated(self.request.path).starts_with(self.said(prefix))
+        let prefix = self.said(prefix);
+        let rest = self.stated(self.request.path).strip_prefix(prefix);
+        rest.is_some_and(|rest| rest.is_empty() || rest[0] == b'/' || prefix.ends_with(b"/"))
     }
 
     /// Whether the method is one of a list, which was read well before.
@@ -216,6 +221,28 @@ mod tests {
         assert_eq!(with(&full(), "path_prefix", b"\x6f/o/b3:abcd/some"), 0);
         assert_eq!(with(&full(), "path_prefix", b"\x70/o/b3:abcd/some1"), PATH);
         assert_eq!(with(&full(), "path_prefix", b"\x62/p"), PATH);
+    }
+
+    #[test]
+    fn a_prefix_ends_where_a_segment_does() {
+        let cases: [(&[u8], &[u8], u32); 9] = [
+            (b"\x68/relay/1", b"/relay/1", 0),
+            (b"\x68/relay/1", b"/relay/1/count", 0),
+            (b"\x68/relay/1", b"/relay/12", PATH),
+            (b"\x68/relay/1", b"/relay/1?n", PATH),
+            (b"\x68/relay/1", b"/relay/1#n", PATH),
+            (b"\x69/relay/1/", b"/relay/1", PATH),
+            (b"\x69/relay/1/", b"/relay/1/count", 0),
+            (b"\x69/relay/1/", b"/relay/12/", PATH),
+            (b"\x61/", b"/relay/12", 0),
+        ];
+        for (prefix, path, wanted) in cases {
+            let asked = Fields { path, ..full() };
+            let scope = [b"\xa2\x66prefix", prefix, b"\x67methods\x81\x63GET"].concat();
+            let said = String::from_utf8_lossy(path);
+            assert_eq!(with(&asked, "path_prefix", prefix), wanted, "{said}");
+            assert_eq!(within(&asked, &scope), wanted, "{said}");
+        }
     }
 
     #[test]

@@ -15,7 +15,7 @@ use crate::trees::{caveat_of, rate};
 pub fn cases() -> Vec<Verify> {
     let scopes = [scope_methods(), scope_paths(), scope_sizes()].concat();
     let numbers = [exp(), nbf(), sizes_and_rates()].concat();
-    let texts = [audiences(), lists_and_prefixes(), peers(), tenants_and_digests(), amnesia()].concat();
+    let texts = [audiences(), lists(), prefixes(), peers(), tenants_and_digests(), amnesia()].concat();
     [keys(), tags(), joined_ids(), tenants(), scopes, numbers, texts].concat()
 }
 
@@ -97,14 +97,24 @@ fn scope_methods() -> Vec<Verify> {
     ]
 }
 
+/// The rule of document 02's M-100, for the scope's prefix.
 fn scope_paths() -> Vec<Verify> {
-    let path = |path: &str| asked(|request| request.path = path.into()).laid();
-    let some = scope_of(Some("/o/b3:abcd"), &["GET"], None);
-    let under = Case { scope: some, ..asked(|request| request.path = b"/o/b3:abcd/some".to_vec()) };
+    let of = |prefix: &str, path: &str| {
+        let scope = scope_of(Some(prefix), &["GET"], None);
+        Case { scope, ..asked(|request| request.path = path.into()) }.laid()
+    };
+    let path = |path| of("/relay/1", path);
     vec![
         verify(0, "scope-path-equal", "the path is the prefix", path("/relay/1")),
-        verify(0, "scope-path-12", "/relay/12 starts with /relay/1, byte by byte", path("/relay/12")),
-        verify(0, "scope-path-under", "/o/b3:abcd holds for /o/b3:abcd/some", under.laid()),
+        verify(0, "scope-path-count", "/relay/1 fits /relay/1/count", path("/relay/1/count")),
+        verify(11, "scope-path-12", "/relay/1 does not fit /relay/12", path("/relay/12")),
+        verify(11, "scope-path-12-count", "nor /relay/12/count", path("/relay/12/count")),
+        verify(11, "scope-path-question", "the next byte is ?", path("/relay/1?n=2")),
+        verify(11, "scope-path-hash", "the next byte is #", path("/relay/1#n")),
+        verify(0, "scope-path-slash", "/relay/1/ fits /relay/1/count", of("/relay/1/", "/relay/1/count")),
+        verify(11, "scope-path-slash-shorter", "/relay/1/ does not fit /relay/1", of("/relay/1/", "/relay/1")),
+        verify(0, "scope-path-root", "/ fits every path", of("/", "/relay/12")),
+        verify(0, "scope-path-under", "/o/b3:abcd fits /o/b3:abcd/some", of("/o/b3:abcd", "/o/b3:abcd/some")),
         verify(11, "scope-path-other", "another relay", path("/relay/2/count")),
         verify(11, "scope-path-shorter", "the path ends before the prefix does", path("/relay/")),
     ]
@@ -176,13 +186,25 @@ fn audiences() -> Vec<Verify> {
     ]
 }
 
-fn lists_and_prefixes() -> Vec<Verify> {
+fn lists() -> Vec<Verify> {
     vec![
         verify(0, "method-in-list", "GET is in the caveat's list", one("method", methods(&["PUT", "GET"]))),
         verify(10, "method-not-in-list", "PUT alone", one("method", methods(&["PUT"]))),
         verify(10, "method-none", "an empty list holds for nothing", one("method", methods(&[]))),
-        verify(0, "path_prefix-under", "the path starts with it", one("path_prefix", words("/relay/1/c"))),
-        verify(11, "path_prefix-other", "the path does not", one("path_prefix", words("/relay/1/n"))),
+    ]
+}
+
+/// The same rule for path_prefix, on the path /relay/1/count.
+fn prefixes() -> Vec<Verify> {
+    let of = |prefix: &str| one("path_prefix", words(prefix));
+    vec![
+        verify(0, "path_prefix-equal", "the path", of("/relay/1/count")),
+        verify(0, "path_prefix-under", "the next byte is /", of("/relay/1")),
+        verify(0, "path_prefix-slash", "its last byte is /", of("/relay/1/")),
+        verify(0, "path_prefix-root", "/ fits every path", of("/")),
+        verify(11, "path_prefix-within", "/relay/1/c ends within a segment", of("/relay/1/c")),
+        verify(11, "path_prefix-slash-longer", "/relay/1/count/ is longer than the path", of("/relay/1/count/")),
+        verify(11, "path_prefix-other", "another path", of("/relay/1/name")),
     ]
 }
 

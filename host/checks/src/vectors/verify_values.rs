@@ -44,7 +44,7 @@ fn strings() -> Vec<Verify> {
         asked_with("aud", words(&aud), |request| request.audience = Some(b"a".repeat(length.clamp(1, 128))))
     };
     let path = |length: usize| {
-        let path = "/relay/1/".repeat(40);
+        let path = format!("/relay/1{}", "/7".repeat(180));
         asked_with("path_prefix", words(&path[..length]), |request| request.path = path.clone().into())
     };
     let digest = |digest: &str| one("gov_policy_digest", words(digest));
@@ -84,7 +84,7 @@ fn lists() -> Vec<Verify> {
 
 fn sizes() -> Vec<Verify> {
     let mut case = fresh();
-    case.request.path = b"/relay/1/".repeat(40);
+    case.request.path = [&b"/relay/1"[..], &b"/7".repeat(180)].concat();
     fill(&mut case, 4096);
     vec![verify(0, "token-4096", "the longest token: 4,096 bytes, 5,462 characters", case.laid())]
 }
