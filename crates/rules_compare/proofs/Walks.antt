@@ -56,19 +56,11 @@ too-short p t h = rw (unlike p t (λ e. omega arith), starts-not p t h)
 pub record Fitting (p t : List ℕ) (b : Bool) (last i : ℕ) : Type 0 where
   pub long : length p ≤ length t
   pub inside : i ≤ length p
-  pub rest : pick b (starts (drop i p) (drop i t)) false ≡ starts p t
+  pub rest : b && starts (drop i p) (drop i t) ≡ starts p t
   pub seen : last ≡ pick (ltb 0 i) (getD p (i - 1) 0) 0
 
 pub fitting-none : (p t : List ℕ) → length p ≤ length t → Fitting p t true 0 0
 fitting-none p t l = record { long = l; inside = omega arith; rest = refl; seen = refl }
-
-whole : (b : Bool) → pick b true false ≡ b
-whole true = refl
-whole false = refl
-
-none : (b : Bool) → pick b false false ≡ false
-none true = refl
-none false = refl
 
 module _ (p t : List ℕ) (b : Bool) (last i : ℕ) (w : Fitting p t b last i) where
   module _ (h : i < length p) where
@@ -83,7 +75,7 @@ module _ (p t : List ℕ) (b : Bool) (last i : ℕ) (w : Fitting p t b last i) w
     other-byte d = record {
       long = w .long;
       inside = omega arith;
-      rest = sym (none b) ∙ (rw (drop-cons p i 0 h, drop-cons t i 0 in-t, ne-eqb _ _ d) at (w .rest));
+      rest = sym (and-false b) ∙ (rw (drop-cons p i 0 h, drop-cons t i 0 in-t, ne-eqb _ _ d) at (w .rest));
       seen = now-last;
     }
 
@@ -103,7 +95,7 @@ module _ (p t : List ℕ) (b : Bool) (last i : ℕ) (w : Fitting p t b last i) w
 
     begun : starts p t ≡ b
     unfolding starts
-    begun = sym (rw (drop-of-length-le p h) at (w .rest)) ∙ whole b
+    begun = sym (rw (drop-of-length-le p h) at (w .rest)) ∙ and-true b
 
     ends : endsInSlash p ≡ eqb last slash
     unfolding endsInSlash
