@@ -26,7 +26,7 @@ pub fn of_caveats(count: usize) -> Case {
 
 /// A case whose token has as many bytes as a token may have.
 pub fn longest() -> Case {
-    let mut case = bare(&b"/7".repeat(256));
+    let mut case = bare(&[&b"/relay/7/counter"[..], &b"/7".repeat(248)].concat());
     case.caveats = (0..HOLDING).filter_map(|kind| narrowest(kind, &case.request)).collect();
     fill(&mut case, 4096);
     case
