@@ -23,14 +23,15 @@ starts (a ∷ p) (b ∷ t) = pick (eqb a b) (starts p t) false
 unfoldable pub endsInSlash : List ℕ → Bool
 endsInSlash prefix = eqb (getD prefix (length prefix - 1) 0) slash
 
--- "the next path byte is "/"": the first one behind the prefix; a path without one has none
+-- "the next path byte is "/"": the one behind as many as the prefix has
 unfoldable pub nextIsSlash : List ℕ → List ℕ → Bool
 nextIsSlash prefix path = eqb (getD path (length prefix) 0) slash
 
 unfoldable pub fitsOf : List ℕ → List ℕ → Bool
 fitsOf prefix path = sameOf prefix path || (starts prefix path && (endsInSlash prefix || nextIsSlash prefix path))
 
--- the same of whole lists; that it is the same is `fits-exactly` of proofs/FittingLaws.antt
+-- the same of whole lists: the path is the prefix; or the prefix, "/" and anything; or the prefix, which ends in "/", and anything. That it is
+-- the same is `fits-exactly` of proofs/FittingLaws.antt
 pub data Fits (prefix path : List ℕ) : Type 0 where
   equal : path ≡ prefix → Fits prefix path
   slash-next : (rest : List ℕ) → path ≡ prefix ++ (slash ∷ rest) → Fits prefix path

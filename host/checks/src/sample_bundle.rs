@@ -81,7 +81,7 @@ fn scopes() -> Vec<Step> {
         token("deny caveat.method", fresh(WORKSHOP)),
         request(Request { path: b"/relay/2/count".to_vec(), ..read_count() }),
         token("deny caveat.path", fresh(WORKSHOP)),
-        request(Request { path: b"/relay/12/count".to_vec(), ..read_count() }),
+        request(Request { path: b"/relay/12".to_vec(), ..read_count() }),
         token("deny caveat.path", fresh(WORKSHOP)),
         request(Request { body_size: 513, ..read_count() }),
         token("deny caveat.bytes", fresh(WORKSHOP)),
