@@ -16,43 +16,43 @@ use Rattle.cbor_strings.specs.declared.Class.the-variants.{Path}
 use Rattle.rules_compare.specs.Fitting.{slash, starts, endsInSlash, nextIsSlash, fitsOf, Fits, equal, slash-next, slash-last}
 
 -- a path begins with a prefix exactly when it is the prefix and something behind it
-starts-behind : (p t : List ℕ) → starts p (p ++ t) ≡ true
+does-start : (p t : List ℕ) → starts p (p ++ t) ≡ true
 unfolding starts
-starts-behind [] t = refl
-starts-behind (a ∷ p) t = rw (eq-eqb a a refl) (starts-behind p t)
+does-start [] t = refl
+does-start (a ∷ p) t = rw (eq-eqb a a refl) (does-start p t)
 
-behind-starts : (p t : List ℕ) → starts p t ≡ true → t ≡ p ++ drop (length p) t
+only-starts : (p t : List ℕ) → starts p t ≡ true → t ≡ p ++ drop (length p) t
 unfolding starts
-behind-starts [] t e = refl
-behind-starts (a ∷ p) [] e = absurd (false≢true e)
-behind-starts (a ∷ p) (b ∷ t) e = by (eqb a b) refl e (behind-starts p t)
+only-starts [] t e = refl
+only-starts (a ∷ p) [] e = absurd (false≢true e)
+only-starts (a ∷ p) (b ∷ t) e = by (eqb a b) refl e (only-starts p t)
   where
     by : (u : Bool) → eqb a b ≡ u → pick u (starts p t) false ≡ true → (starts p t ≡ true → t ≡ p ++ drop (length p) t) → b ∷ t ≡ a ∷ (p ++ drop (length p) t)
     by true q f m = ap₂ _∷_ (sym (eqb-true a b q)) (m f)
     by false q f m = absurd (false≢true f)
 
--- "ends in "/"", and "the next path byte is "/""
-ends-slash : (front : List ℕ) → endsInSlash (front ++ (slash ∷ [])) ≡ true
+-- what ends in "/" is something and a "/"; where the next path byte is "/", one stands first behind the prefix
+does-end : (front : List ℕ) → endsInSlash (front ++ (slash ∷ [])) ≡ true
 unfolding endsInSlash
-ends-slash front =
+does-end front =
     let z : length (front ++ (slash ∷ [])) - 1 ≡ length front = omega (arith, length-append front (slash ∷ [])) in
     rw (z, getD-append-seam front slash [] 0)
 
-slash-ends : (p : List ℕ) → endsInSlash p ≡ true → p ≡ take (length p - 1) p ++ (slash ∷ [])
+only-ends : (p : List ℕ) → endsInSlash p ≡ true → p ≡ take (length p - 1) p ++ (slash ∷ [])
 unfolding endsInSlash
-slash-ends [] e = absurd (false≢true e)
-slash-ends (a ∷ p) e =
+only-ends [] e = absurd (false≢true e)
+only-ends (a ∷ p) e =
     let whole = a ∷ p in
     let at = length whole - 1 in
     rw (eqb-true (getD whole at 0) slash e, drop-of-length-le whole {i = suc at} (omega arith)) at (split-at whole at 0 (omega arith))
 
-next-slash : (p rest : List ℕ) → nextIsSlash p (p ++ (slash ∷ rest)) ≡ true
+does-follow : (p rest : List ℕ) → nextIsSlash p (p ++ (slash ∷ rest)) ≡ true
 unfolding nextIsSlash
-next-slash p rest = rw (getD-append-seam p slash rest 0)
+does-follow p rest = rw (getD-append-seam p slash rest 0)
 
-slash-nexts : (p t : List ℕ) → nextIsSlash p t ≡ true → drop (length p) t ≡ slash ∷ drop (suc (length p)) t
+only-follows : (p t : List ℕ) → nextIsSlash p t ≡ true → drop (length p) t ≡ slash ∷ drop (suc (length p)) t
 unfolding nextIsSlash
-slash-nexts p t e = by (ltb (length p) (length t)) refl
+only-follows p t e = by (ltb (length p) (length t)) refl
   where
     at-slash : getD t (length p) 0 ≡ slash
     at-slash = eqb-true (getD t (length p) 0) slash e
@@ -68,11 +68,11 @@ fits-then p t s e = rw (s, e, or-true (sameOf p t))
 
 module _ (p t : List ℕ) where
   edge : (u : Bool) → endsInSlash p ≡ u → u || nextIsSlash p t ≡ true → t ≡ p ++ drop (length p) t → Fits p t
-  edge true e f h = slash-last (take (length p - 1) p) (drop (length p) t) (slash-ends p e) h
-  edge false e f h = slash-next (drop (suc (length p)) t) (h ∙ ap (λ (r : List ℕ). p ++ r) (slash-nexts p t f))
+  edge true e f h = slash-last (take (length p - 1) p) (drop (length p) t) (only-ends p e) h
+  edge false e f h = slash-next (drop (suc (length p)) t) (h ∙ ap (λ (r : List ℕ). p ++ r) (only-follows p t f))
 
   begun : (u : Bool) → starts p t ≡ u → u && (endsInSlash p || nextIsSlash p t) ≡ true → Fits p t
-  begun true e f = edge (endsInSlash p) refl f (behind-starts p t e)
+  begun true e f = edge (endsInSlash p) refl f (only-starts p t e)
   begun false e f = absurd (false≢true f)
 
   fitted : (u : Bool) → sameOf p t ≡ u → u || (starts p t && (endsInSlash p || nextIsSlash p t)) ≡ true → Fits p t
@@ -86,8 +86,8 @@ module _ (p t : List ℕ) where
   does-fit : Fits p t → fitsOf p t ≡ true
   unfolding fitsOf
   does-fit (equal e) = rw (equal-same p t (sym e))
-  does-fit (slash-next rest e) = subst (λ (t : List ℕ). fitsOf p t ≡ true) (sym e) (fits-then p _ (starts-behind p _) (rw (next-slash p rest, or-true (endsInSlash p))))
-  does-fit (slash-last front rest d e) = subst (λ (t : List ℕ). fitsOf p t ≡ true) (sym e) (fits-then p _ (starts-behind p rest) (rw (d, ends-slash front)))
+  does-fit (slash-next rest e) = subst (λ (t : List ℕ). fitsOf p t ≡ true) (sym e) (fits-then p _ (does-start p _) (rw (does-follow p rest, or-true (endsInSlash p))))
+  does-fit (slash-last front rest d e) = subst (λ (t : List ℕ). fitsOf p t ≡ true) (sym e) (fits-then p _ (does-start p rest) (rw (d, does-end front)))
 
 pub fits-exactly : (prefix path : List ℕ) → (fitsOf prefix path ≡ true → Fits prefix path) × (Fits prefix path → fitsOf prefix path ≡ true)
 fits-exactly prefix path = (only-fits prefix path, does-fit prefix path)
@@ -109,7 +109,7 @@ goes-on {p} {t} (slash-last front rest d e) = (rest, e)
 
 -- what fits begins with the prefix, as document 01 asked: no token allows more than it did
 pub fits-starts : (prefix path : List ℕ) → fitsOf prefix path ≡ true → starts prefix path ≡ true
-fits-starts prefix path f = let on = goes-on (only-fits prefix path f) in subst (λ (t : List ℕ). starts prefix t ≡ true) (sym (on .1)) (starts-behind prefix (on .0))
+fits-starts prefix path f = let on = goes-on (only-fits prefix path f) in subst (λ (t : List ℕ). starts prefix t ≡ true) (sym (on .1)) (does-start prefix (on .0))
 
 -- a prefix under another one never widens: what the longer fits, the one that fits the longer fits too
 still-fits : {p q : List ℕ} (t : List ℕ) → Fits p q → Fits q t → Fits p t
