@@ -3,7 +3,10 @@ use Rattle.bhinorpa.specs.Demands.{VerifyList, IssueList, NarrowList, Re
 use Rattle.bhinorpa.specs.Demands.{AllowedExactly, FirstFailing, VerdictOne, DefectNoToken}
 use Rattle.bhinorpa.specs.Demands.{IssueFirstFailing, IssueVerdictOne, IdsOfRows, IssueRefusals, NarrowFirstFailing, NarrowVerdictOne}
 use Rattle.bhinorpa.specs.Demands.{IssueWrites, NarrowWrites, Rebuilt, RoomEnough, NarrowingExact, NarrowingRefusals, FirstBits, NoPeer, FitsExactly, FitsNarrows}
+use Rattle.bhinorpa.specs.Demands.{CleanExactly, FitsSegments}
+use Rattle.cbor_strings.proofs.PathLaws as paths
 use Rattle.rules_compare.proofs.FittingLaws as fitting
+use Rattle.rules_compare.proofs.SegmentLaws as segments
 use Rattle.bhinorpa.proofs.Rooms as rooms
 use Rattle.bhinorpa.proofs.Texts as texts
 use Rattle.bhinorpa.proofs.DemandsVerify as verify
@@ -37,6 +40,8 @@ pub record Demands : Type 0 where
   pub no-peer : NoPeer
   pub fits-exactly : FitsExactly
   pub fits-narrows : FitsNarrows
+  pub clean-exactly : CleanExactly
+  pub fits-segments : FitsSegments
 
 pub demands : Demands
 demands = record {
@@ -64,4 +69,6 @@ demands = record {
   no-peer = verify.no-peer;
   fits-exactly = fitting.fits-exactly;
   fits-narrows = fitting.fits-narrows;
+  clean-exactly = paths.clean-exactly;
+  fits-segments = segments.fits-segments;
 }

@@ -13,6 +13,9 @@ use Rattle.basis.specs.Limits.{caveatsMost, tokenMost, textMost}
 use Rattle.basis.specs.Basis.{pick, IsBytes}
 use Rattle.answers.specs.Answers.{numberOf}
 use Rattle.answers.specs.declared.Answer.the-variants.{Allow, CavFull, SizeFull, OutShort}
+use Rattle.cbor_strings.specs.Strings.{contentOf}
+use Rattle.cbor_strings.specs.Segments.{Clean}
+use Rattle.cbor_strings.specs.declared.Class.the-variants.{Path}
 use Rattle.cbor_keys.specs.Maps.{GoodName}
 use Rattle.token_cidr.specs.Prefixes.{Prefix, GoodPrefix}
 use Rattle.token_cidr.specs.Bits.{Agree}
@@ -22,6 +25,7 @@ use Rattle.token.specs.Tokens.{Token, encodeToken}
 use Rattle.records_table.specs.Tables.{Row, GoodTable, hasRow}
 use Rattle.records_request.specs.Requests.{Request}
 use Rattle.rules_compare.specs.Fitting.{fitsOf, Fits}
+use Rattle.rules_compare.specs.FittingSegments.{FitsBySegments}
 use Rattle.rules.specs.Holding.{addressBytes, caveatHolds}
 use Rattle.verify.specs.Verifying.{verifyOf}
 use Rattle.outcome.specs.Decisions.{Decision, Carried}
@@ -168,3 +172,14 @@ FitsExactly = (prefix path : List ℕ) → (fitsOf prefix path ≡ true → Fits
 -- so a prefix under another one never widens
 abbrev pub FitsNarrows : Type 0
 FitsNarrows = (prefix longer path : List ℕ) → fitsOf prefix longer ≡ true → fitsOf longer path ≡ true → fitsOf prefix path ≡ true
+
+-- Document 02, M-106: "Refuse a request path with "%", "//", or a segment "." or "..". Refuse the same in a scope prefix or path_prefix": a path
+-- is "/" and a segment, as often as it has segments, none of them empty but the last
+abbrev pub CleanExactly : Type 0
+CleanExactly = (path : List ℕ) → (contentOf Path path ≡ true → Clean path) × (Clean path → contentOf Path path ≡ true)
+
+-- so a prefix fits a path segment by segment
+abbrev pub FitsSegments : Type 0
+FitsSegments =
+    (prefix path : List ℕ) → contentOf Path prefix ≡ true → contentOf Path path ≡ true
+    → (fitsOf prefix path ≡ true → FitsBySegments prefix path) × (FitsBySegments prefix path → fitsOf prefix path ≡ true)

@@ -5,7 +5,7 @@ use mathlib.Core.List.{List, [], _∷_}
 use Prim.Native.Nat.{ℕ, suc, _+_, _≤_, _<_, min, max}
 use native.Mathlib.Numerals.{add-one}
 use native.Mathlib.Omega.{arith}
-use borrow.Author.Tests.{le-leb, lt-leb, leb-true, leb-false, eqb-true, eq-eqb, ne-eqb}
+use borrow.Author.Tests.{le-leb, lt-leb, leb-true, leb-false, eqb-true}
 use lib.Dec.{leb, eqb}
 use lib.ListN.{length, drop, getD, drop-of-length-le}
 use lib.Seq.{drop-cons}
@@ -13,7 +13,7 @@ use Rattle.basis.specs.Basis.{pick, IsBytes}
 use Rattle.basis.proofs.All.{all, all-at}
 use Rattle.cbor_strings.specs.Strings.{within, isName, isPrintable, isUpper, isHex, allOf, contentOf}
 use Rattle.cbor_strings.specs.Inner.{kindOf, kindsFrom}
-use Rattle.cbor_strings.specs.declared.Class.the-variants.{Name, Printable, Path, Upper, Hex}
+use Rattle.cbor_strings.specs.declared.Class.the-variants.{Name, Printable, Upper, Hex}
 
 -- characters from a to below b are of one kind
 pub stretch : (a b k : ℕ) → all b (λ c. pick (leb a c) (eqb k (kindOf c)) true) ≡ true → (c : ℕ) → a ≤ c → c < b → k ≡ kindOf c
@@ -56,19 +56,6 @@ module _ (s : List ℕ) (b : IsBytes s) where
 pub printable-range : (s : List ℕ) → allOf (within 0x21 0x7e) s ≡ contentOf Printable s
 unfolding contentOf isPrintable
 printable-range s = refl
-
-pub path-range : (s : List ℕ) → getD s 0 0 ≡ 47 → allOf (within 0x21 0x7e) s ≡ contentOf Path s
-unfolding contentOf isPrintable
-path-range s e = rw (eq-eqb _ _ e)
-
--- a path that does not begin with "/"
-pub no-slash : (s : List ℕ) → (getD s 0 0 ≡ 47 → ⊥) → false ≡ contentOf Path s
-unfolding contentOf
-no-slash s h = rw (ne-eqb _ _ h)
-
-pub no-path : (s : List ℕ) → length s ≡ 0 → false ≡ contentOf Path s
-no-path [] h = no-slash [] (λ e. omega arith)
-no-path (c ∷ t) h = let z : ⊥ = omega arith in elim z [ ]
 
 -- the search for a character of another kind: the first i are of the kinds wanted
 pub record Searched (f : ℕ → Bool) (s : List ℕ) (i : ℕ) : Type 0 where

@@ -1,4 +1,9 @@
 pub mod Classes
+pub mod PathWalks
+pub mod PathJudged
+pub mod PathLaws
+pub mod PathCases
+pub mod SegmentsJoined
 pub mod RunReads
 pub mod StringLaws
 pub mod OneAnswer

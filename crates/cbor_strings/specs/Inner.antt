@@ -1,8 +1,10 @@
--- Inner. The classes of content as runs of disjoint kinds, which is how the code looks them up.
-use mathlib.Core.Bool.{Bool, _&&_}
+-- Inner. How the code judges content: the classes as runs of disjoint kinds, and a path a byte after the other.
+use mathlib.Core.Bool.{Bool, not, _&&_, _||_}
+use mathlib.Core.List.{List, [], _∷_}
 use Prim.Native.Nat.{ℕ}
-use lib.Dec.{leb}
+use lib.Dec.{eqb, leb}
 use Rattle.basis.specs.Basis.{pick}
+use Rattle.cbor_strings.specs.Paths.{slash, percent}
 use Rattle.cbor_strings.specs.Strings.{isHex, isName, isPrintable, isUpper}
 
 -- the kinds of characters, disjoint: each class is a run of them
@@ -11,3 +13,37 @@ kindOf c = pick (isUpper c) 3 (pick (isHex c) 4 (pick (isName c) 2 (pick (isPrin
 
 abbrev pub kindsFrom : ℕ → ℕ → ℕ → Bool
 kindsFrom low high c = leb low (kindOf c) && leb (kindOf c) high
+
+-- what is seen so far of the segment that is open: nothing, ".", "..", or anything else; or the path is refused, whatever follows
+abbrev pub anything : ℕ
+anything = 0
+
+abbrev pub nothing : ℕ
+nothing = 1
+
+abbrev pub dot : ℕ
+dot = 2
+
+abbrev pub dots : ℕ
+dots = 3
+
+abbrev pub refused : ℕ
+refused = 4
+
+-- a byte that no path has
+unfoldable pub isOutside : ℕ → Bool
+isOutside c = eqb c percent || not (isPrintable c)
+
+abbrev pub afterDot : ℕ → ℕ
+afterDot seen = pick (eqb seen nothing) dot (pick (eqb seen dot) dots anything)
+
+unfoldable pub nextSeen : ℕ → ℕ → ℕ
+nextSeen seen c = pick (isOutside c) refused (pick (eqb c slash) (pick (eqb seen anything) nothing refused) (pick (eqb c 46) (afterDot seen) anything))
+
+unfoldable pub seenBy : ℕ → List ℕ → ℕ
+seenBy seen [] = seen
+seenBy seen (c ∷ t) = pick (eqb seen refused) refused (seenBy (nextSeen seen c) t)
+
+-- the same as marks, of which the first that is set counts
+abbrev pub seenOf : Bool → Bool → Bool → Bool → ℕ
+seenOf bad empty one two = pick bad refused (pick empty nothing (pick one dot (pick two dots anything)))

@@ -6,9 +6,11 @@ use cbor_heads::defect::BOUNDS;
 use cbor_heads::defect::CBOR;
 use cbor_heads::major;
 ghost use mathlib.Core.Path.{_≡_};
-ghost use Prim.Native.Nat.{_<_, min, max};
+ghost use mathlib.Core.Bool.{_&&_, _||_};
+ghost use Prim.Native.Nat.{_≤_, _<_, min, max};
 ghost use Rattle.cbor_strings.specs.Strings.{within, allOf, contentOf};
-ghost use Rattle.cbor_strings.specs.Inner.{kindOf, kindsFrom};
+ghost use Rattle.cbor_strings.specs.Inner.{kindOf, kindsFrom, isOutside, nextSeen, seenBy, seenOf};
+ghost use Rattle.cbor_strings.specs.declared.Class.the-variants.{Path};
 ghost use Rattle.cbor_strings.specs.Reading.{readRun, readString};
 
 // What a string may hold.
@@ -24,6 +26,19 @@ pub enum Class {
 pub enum Content {
     Of { span: Span },
     Bad { kind: u32, at: usize },
+}
+
+// What is seen so far of the segment of a path that is open; or that the path is refused, whatever follows.
+mod seen {
+    pub const ANYTHING: u8 = 0;
+
+    pub const NOTHING: u8 = 1;
+
+    pub const DOT: u8 = 2;
+
+    pub const DOTS: u8 = 3;
+
+    pub const REFUSED: u8 = 4;
 }
 
 // The kind of a character before "A".
@@ -139,23 +154,146 @@ fn all_between(s: &[u8], low: u8, high: u8) -> bool
     last <= high
 }
 
+fn either(a: bool, b: bool) -> bool
+    ensures { λ r. ⌜ r ≡ a || b ⌝ }
+{
+    if a { true } else { b }
+}
+
+fn both(a: bool, b: bool) -> bool
+    ensures { λ r. ⌜ r ≡ a && b ⌝ }
+{
+    if a { b } else { false }
+}
+
+// The marks as a number, the first that is set.
+fn seen_of(bad: bool, empty: bool, dot: bool, dots: bool) -> u8
+    ensures { λ r. ⌜ r ≡ seenOf bad empty dot dots ⌝ }
+{
+    if bad {
+        return seen::REFUSED;
+    }
+    if empty {
+        return seen::NOTHING;
+    }
+    if dot {
+        return seen::DOT;
+    }
+    if dots { seen::DOTS } else { seen::ANYTHING }
+}
+
+// Whether no path may hold this byte, wherever it stands.
+fn outside(c: u8) -> bool
+    ensures { λ r. ⌜ r ≡ isOutside c ⌝ }
+{
+    either(c == b'%', either(c < 0x21, 0x7e < c))
+}
+
+// What is seen of the open segment of a path behind one more byte. Letters are asked for first: they are most of a path.
+fn next_seen(seen: u8, c: u8) -> u8
+    ensures { λ r. ⌜ r ≡ nextSeen seen c ⌝ }
+{
+    if b'/' < c {
+        if c < 0x7f {
+            return seen::ANYTHING;
+        }
+        return seen::REFUSED;
+    }
+    if c == b'/' {
+        if seen == seen::ANYTHING {
+            return seen::NOTHING;
+        }
+        return seen::REFUSED;
+    }
+    if c == b'.' {
+        if seen == seen::NOTHING {
+            return seen::DOT;
+        }
+        if seen == seen::DOT {
+            return seen::DOTS;
+        }
+        return seen::ANYTHING;
+    }
+    if outside(c) {
+        return seen::REFUSED;
+    }
+    seen::ANYTHING
+}
+
+// What is seen of the open segment of a path behind so many more bytes, one after the other.
+fn walk(s: &[u8], seen: u8) -> u8
+    ensures { λ r. ⌜ r ≡ seenBy seen (now (s .entry)) ⌝ }
+{
+    if seen == seen::REFUSED {
+        return seen::REFUSED;
+    }
+    let mut so_far = seen;
+    let mut i: usize = 0;
+    while i < s.len() {
+        so_far = next_seen(so_far, s[i]);
+        if so_far == seen::REFUSED {
+            return seen::REFUSED;
+        }
+        i += 1;
+    }
+    so_far
+}
+
+// The same with no way out of the loop and a mark for each thing that the segment may be, so that the compiler
+// takes many bytes at a time.
+fn walk_block(s: &[u8], seen: u8) -> u8
+    requires { ⌜ seen ≤ 4 ⌝ }
+    ensures { λ r. ⌜ r ≡ seenBy seen (now (s .entry)) ⌝ }
+{
+    let mut bad = seen == seen::REFUSED;
+    let mut empty = seen == seen::NOTHING;
+    let mut dot = seen == seen::DOT;
+    let mut dots = seen == seen::DOTS;
+    let mut i: usize = 0;
+    while i < s.len() {
+        let c = s[i];
+        let slash = c == b'/';
+        let point = c == b'.';
+        bad = either(
+            bad,
+            either(outside(c), both(slash, either(empty, either(dot, dots)))),
+        );
+        dots = both(point, dot);
+        dot = both(point, empty);
+        empty = slash;
+        i += 1;
+    }
+    seen_of(bad, empty, dot, dots)
+}
+
+// Whether a path's content is good. Each byte is read once, left to right.
+fn path_is(s: &[u8]) -> bool
+    ensures { λ r. ⌜ r ≡ contentOf Path (now (s .entry)) ⌝ }
+{
+    if s.len() == 0 {
+        return false;
+    }
+    if s[0] != b'/' {
+        return false;
+    }
+    let mut seen = seen::NOTHING;
+    let mut i: usize = 1;
+    while 32 <= s.len() - i {
+        seen = walk_block(&s[i..i + 32], seen);
+        i += 32;
+    }
+    walk(&s[i..], seen) < seen::DOT
+}
+
 pub fn content_is(s: &[u8], class: Class) -> bool
     ensures { λ r. ⌜ r ≡ contentOf class (now (s .entry)) ⌝ }
 {
     match class {
         Class::Name => all_from(s, 2, 4),
         Class::Printable => all_between(s, 0x21, 0x7e),
+        Class::Path => path_is(s),
         Class::Upper => all_from(s, 3, 3),
         Class::Hex => all_from(s, 4, 4),
-        Class::Path => {
-            if s.len() == 0 {
-                return false;
-            }
-            if s[0] != b'/' {
-                return false;
-            }
-            all_between(s, 0x21, 0x7e)
-        }
     }
 }
 

@@ -3,7 +3,8 @@ use mathlib.Core.Path.{_≡_, refl}
 use mathlib.Core.Bool.{true, false}
 use Rattle.basis.specs.Basis.{ascii}
 use Rattle.basis.specs.Same.{sameOf}
-use Rattle.rules_compare.specs.Fitting.{starts, endsInSlash, nextIsSlash, fitsOf}
+use Rattle.cbor_strings.specs.Paths.{starts}
+use Rattle.rules_compare.specs.Fitting.{endsInSlash, nextIsSlash, fitsOf}
 
 -- "add cases for /relay/1 with /relay/1, /relay/1/count, /relay/12"
 pub relay-cases :

@@ -11,9 +11,11 @@ use lib.Seq.{drop-cons, split-at, getD-append-seam}
 use Rattle.basis.specs.Basis.{pick, ascii}
 use Rattle.basis.specs.Same.{sameOf}
 use Rattle.basis.proofs.Sameness.{same-equal, equal-same}
-use Rattle.cbor_strings.specs.Strings.{isPrintable, allOf, contentOf}
+use Rattle.cbor_strings.specs.Strings.{contentOf}
 use Rattle.cbor_strings.specs.declared.Class.the-variants.{Path}
-use Rattle.rules_compare.specs.Fitting.{slash, starts, endsInSlash, nextIsSlash, fitsOf, Fits, equal, slash-next, slash-last}
+use Rattle.cbor_strings.specs.Paths.{slash, starts}
+use Rattle.cbor_strings.proofs.PathLaws.{first-slash}
+use Rattle.rules_compare.specs.Fitting.{endsInSlash, nextIsSlash, fitsOf, Fits, equal, slash-next, slash-last}
 
 -- a path begins with a prefix exactly when it is the prefix and something behind it
 does-start : (p t : List ℕ) → starts p (p ++ t) ≡ true
@@ -32,13 +34,13 @@ only-starts (a ∷ p) (b ∷ t) e = by (eqb a b) refl e (only-starts p t)
     by false q f m = absurd (false≢true f)
 
 -- what ends in "/" is something and a "/"; where the next path byte is "/", one stands first behind the prefix
-does-end : (front : List ℕ) → endsInSlash (front ++ (slash ∷ [])) ≡ true
+pub does-end : (front : List ℕ) → endsInSlash (front ++ (slash ∷ [])) ≡ true
 unfolding endsInSlash
 does-end front =
     let z : length (front ++ (slash ∷ [])) - 1 ≡ length front = omega (arith, length-append front (slash ∷ [])) in
     rw (z, getD-append-seam front slash [] 0)
 
-only-ends : (p : List ℕ) → endsInSlash p ≡ true → p ≡ take (length p - 1) p ++ (slash ∷ [])
+pub only-ends : (p : List ℕ) → endsInSlash p ≡ true → p ≡ take (length p - 1) p ++ (slash ∷ [])
 unfolding endsInSlash
 only-ends [] e = absurd (false≢true e)
 only-ends (a ∷ p) e =
@@ -96,13 +98,9 @@ fits-exactly prefix path = (only-fits prefix path, does-fit prefix path)
 pub root-fits : (path : List ℕ) → contentOf Path path ≡ true → fitsOf (ascii "/") path ≡ true
 unfolding contentOf
 root-fits [] e = absurd (false≢true e)
-root-fits (a ∷ t) e = does-fit (ascii "/") (a ∷ t) (slash-last [] t refl (ap (λ (x : ℕ). x ∷ t) (eqb-true a slash (by (eqb a slash) e))))
-  where
-    by : (u : Bool) → u && allOf isPrintable (a ∷ t) ≡ true → u ≡ true
-    by true f = refl
-    by false f = absurd (false≢true f)
+root-fits (a ∷ t) e = does-fit (ascii "/") (a ∷ t) (slash-last [] t refl (ap (λ (x : ℕ). x ∷ t) (eqb-true a slash (first-slash (a ∷ t) e))))
 
-goes-on : {p t : List ℕ} → Fits p t → (rest : List ℕ) × (t ≡ p ++ rest)
+pub goes-on : {p t : List ℕ} → Fits p t → (rest : List ℕ) × (t ≡ p ++ rest)
 goes-on {p} {t} (equal e) = ([], e ∙ sym (append-nil p))
 goes-on {p} {t} (slash-next rest e) = (slash ∷ rest, e)
 goes-on {p} {t} (slash-last front rest d e) = (rest, e)

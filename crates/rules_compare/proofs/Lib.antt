@@ -1,4 +1,5 @@
 pub mod FittingLaws
+pub mod SegmentLaws
 pub mod FittingCases
 pub mod Walks
 pub mod OneAnswer

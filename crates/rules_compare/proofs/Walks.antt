@@ -16,7 +16,8 @@ use Rattle.basis.proofs.Sameness.{other-length}
 use Rattle.cbor_strings.specs.Reading.{readString}
 use Rattle.cbor_strings.specs.declared.Class.the-variants.{Upper}
 use Rattle.cbor_strings.specs.declared.Content.the-variants.{Of, Bad}
-use Rattle.rules_compare.specs.Fitting.{slash, starts, endsInSlash, nextIsSlash, fitsOf}
+use Rattle.cbor_strings.specs.Paths.{slash, starts}
+use Rattle.rules_compare.specs.Fitting.{endsInSlash, nextIsSlash, fitsOf}
 use Rattle.rules_compare.specs.Comparing.{memberAt}
 
 -- a path that is no longer than the prefix fits where it begins with it, and of a longer one two bytes decide besides

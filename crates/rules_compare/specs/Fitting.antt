@@ -1,23 +1,13 @@
 -- Meaning. Document 02, M-100: "a prefix fits a path if they are equal, or the path begins with the prefix and either the prefix ends in "/"
 -- or the next path byte is "/". It applies to the scope and to path_prefix." It replaces document 01's "starts with".
 use mathlib.Core.Path.{_≡_}
-use mathlib.Core.Bool.{Bool, true, false, _&&_, _||_}
+use mathlib.Core.Bool.{Bool, _&&_, _||_}
 use mathlib.Core.List.{List, [], _∷_, _++_}
 use Prim.Native.Nat.{ℕ, _-_}
 use lib.Dec.{eqb}
 use lib.ListN.{length, getD}
-use Rattle.basis.specs.Basis.{pick}
 use Rattle.basis.specs.Same.{sameOf}
-
--- "/"
-abbrev pub slash : ℕ
-slash = 47
-
--- "the path begins with the prefix", byte by byte
-unfoldable pub starts : List ℕ → List ℕ → Bool
-starts [] path = true
-starts (a ∷ p) [] = false
-starts (a ∷ p) (b ∷ t) = pick (eqb a b) (starts p t) false
+use Rattle.cbor_strings.specs.Paths.{slash, starts}
 
 -- "the prefix ends in "/""; one of no bytes does not
 unfoldable pub endsInSlash : List ℕ → Bool
@@ -27,6 +17,7 @@ endsInSlash prefix = eqb (getD prefix (length prefix - 1) 0) slash
 unfoldable pub nextIsSlash : List ℕ → List ℕ → Bool
 nextIsSlash prefix path = eqb (getD path (length prefix) 0) slash
 
+-- `starts`: "the path begins with the prefix"
 unfoldable pub fitsOf : List ℕ → List ℕ → Bool
 fitsOf prefix path = sameOf prefix path || (starts prefix path && (endsInSlash prefix || nextIsSlash prefix path))
 

@@ -1,2 +1,3 @@
 pub mod Comparing
 pub mod Fitting
+pub mod FittingSegments

@@ -1,0 +1,185 @@
+-- What is seen at a path's end decides as document 02's sentence does (M-106): a segment that is "." or ".." there, and what was refused on the way.
+use mathlib.Core.Path.{_≡_, refl, sym, ap, subst, _∙_}
+use mathlib.Core.Bool.{Bool, true, false, not, _&&_, _||_, and-true, and-false, false≢true}
+use mathlib.Core.List.{List, [], _∷_}
+use Prim.Native.Nat.{ℕ, _+_, _-_, _≤_, _<_}
+use Prim.Native.String.{String}
+use native.Mathlib.Omega.{arith}
+use borrow.Author.Tests.{eqb-true, eq-eqb, ne-eqb}
+use lib.Dec.{eqb, ltb}
+use lib.ListN.{length, take, drop, getD, length-drop}
+use lib.Seq.{drop-drop, take-all}
+use Rattle.basis.specs.Basis.{pick, ascii}
+use Rattle.basis.specs.Same.{sameOf}
+use Rattle.cbor_strings.specs.Paths.{slash, starts, has, upTo, segments, among, isRewritten}
+use Rattle.cbor_strings.specs.Strings.{isPrintable, allOf, contentOf}
+use Rattle.cbor_strings.specs.Inner.{isOutside, nextSeen, seenBy}
+use Rattle.cbor_strings.specs.declared.Class.the-variants.{Path}
+use Rattle.cbor_strings.proofs.PathWalks.{seen-refused, seen-one, seen-joined, seen-range}
+
+-- a text of which nothing is refused, whatever stands before it
+abbrev free : List ℕ → Bool
+free t = allOf isPrintable t && not (isRewritten t)
+
+abbrev ends : ℕ → List ℕ → Bool
+ends seen t = ltb (seenBy seen t) 2
+
+-- the segment that is open goes on as this text begins
+abbrev goes : String → List ℕ → Bool
+goes w t = sameOf (upTo t) (ascii w)
+
+-- what is seen so far, and what the rest of the text may then be
+record Judged (t : List ℕ) : Type 0 where
+  anything : ends 0 t ≡ free t
+  nothing : ends 1 t ≡ free t && not (starts (ascii "/") t || goes "." t || goes ".." t)
+  dot : ends 2 t ≡ free t && not (goes "" t || goes "." t)
+  dots : ends 3 t ≡ free t && not (goes "" t)
+
+-- "//", "." and ".." of a "/" and a text are those of the text, or begin at the "/"
+gather : (p q d g h x y z : Bool) → (p && not (q || d || g || h)) && not (x || y || z) ≡ p && not (q || (x || d) || (y || g) || (z || h))
+gather false q d g h x y z = refl
+gather true true d g h x y z = refl
+gather true false d g h true y z = and-false (not (d || g || h))
+gather true false true g h false y z = refl
+gather true false false g h false true z = and-false (not (g || h))
+gather true false false true h false false z = refl
+gather true false false false h false false true = and-false (not h)
+gather true false false false true false false false = refl
+gather true false false false false false false false = refl
+
+behind-slash : (t : List ℕ) → free t && not (starts (ascii "/") t || goes "." t || goes ".." t) ≡ free (slash ∷ t)
+unfolding isRewritten has starts segments among allOf isPrintable
+behind-slash t =
+    gather (allOf isPrintable t) (has (ascii "%") t) (has (ascii "//") t) (among (ascii ".") (segments t)) (among (ascii "..") (segments t)) (starts (ascii "/") t) (goes "." t) (goes ".." t)
+
+-- a byte of each kind before a text
+module _ (c : ℕ) (t : List ℕ) where
+  free-outside : isOutside c ≡ true → free (c ∷ t) ≡ false
+  unfolding isOutside isRewritten has starts allOf
+  free-outside o = by (eqb c 37) refl (isPrintable c) o
+    where
+      by : (u : Bool) → eqb c 37 ≡ u → (p : Bool) → u || not p ≡ true
+          → (p && allOf isPrintable t) && not (pick (eqb 37 c) true false || has (ascii "%") t || has (ascii "//") (c ∷ t) || among (ascii ".") (segments (c ∷ t)) || among (ascii "..") (segments (c ∷ t))) ≡ false
+      by u e false g = refl
+      by true e true g = rw (eq-eqb 37 c (sym (eqb-true c 37 e)), and-false (allOf isPrintable t))
+      by false e true g = absurd (false≢true g)
+
+  inside-is : (u : Bool) → eqb c 37 ≡ u → (p : Bool) → isPrintable c ≡ p → u || not p ≡ false → (eqb 37 c ≡ false) × (isPrintable c ≡ true)
+  inside-is true e p f g = absurd (false≢true (sym g))
+  inside-is false e false f g = absurd (false≢true (sym g))
+  inside-is false e true f g = (ne-eqb 37 c (λ h. false≢true (sym e ∙ eq-eqb c 37 (sym h))), f)
+
+  module _ (o : isOutside c ≡ false) (e : eqb c slash ≡ false) where
+    free-other : free (c ∷ t) ≡ free t
+    unfolding isOutside isRewritten has starts segments allOf
+    free-other =
+        let i = inside-is (eqb c 37) refl (isPrintable c) refl o in
+        rw (i .0, i .1, e, ne-eqb slash c (λ h. false≢true (sym e ∙ eq-eqb c slash (sym h))))
+
+refused-ends : (t : List ℕ) → ends 4 t ≡ false
+refused-ends t = ap (λ (k : ℕ). ltb k 2) (seen-refused t)
+
+-- false with whatever is asked besides
+off : {a : Bool} (b : Bool) → a ≡ false → false ≡ a && b
+off b e = rw e
+
+module _ (c : ℕ) (t : List ℕ) where
+  step : (seen next : ℕ) → (seen ≡ 4 → ⊥) → nextSeen seen c ≡ next → ends seen (c ∷ t) ≡ ends next t
+  step seen next g e = ap (λ (k : ℕ). ltb k 2) (seen-one seen c t g ∙ ap (λ (k : ℕ). seenBy k t) e)
+
+  -- a byte that no path has
+  judged-outside : isOutside c ≡ true → Judged (c ∷ t)
+  unfolding nextSeen
+  judged-outside o =
+      let f = free-outside c t o in
+      record {
+        anything = step 0 4 (λ e. omega arith) (rw o) ∙ refused-ends t ∙ sym f;
+        nothing = step 1 4 (λ e. omega arith) (rw o) ∙ refused-ends t ∙ off _ f;
+        dot = step 2 4 (λ e. omega arith) (rw o) ∙ refused-ends t ∙ off _ f;
+        dots = step 3 4 (λ e. omega arith) (rw o) ∙ refused-ends t ∙ off _ f;
+      }
+
+  -- one that is neither "/" nor "."
+  judged-other : isOutside c ≡ false → eqb c slash ≡ false → eqb c 46 ≡ false → Judged t → Judged (c ∷ t)
+  unfolding nextSeen upTo starts sameOf
+  judged-other o e f j =
+      let back : eqb slash c ≡ false = ne-eqb slash c (λ h. false≢true (sym e ∙ eq-eqb c slash (sym h))) in
+      let same = j .anything ∙ sym (free-other c t o e) in
+      record {
+        anything = step 0 0 (λ e. omega arith) (rw (o, e, f)) ∙ same;
+        nothing = rw (back, e, f, and-true (free (c ∷ t))) (step 1 0 (λ e. omega arith) (rw (o, e, f)) ∙ same);
+        dot = rw (e, f, and-true (free (c ∷ t))) (step 2 0 (λ e. omega arith) (rw (o, e, f)) ∙ same);
+        dots = rw (e, and-true (free (c ∷ t))) (step 3 0 (λ e. omega arith) (rw (o, e, f)) ∙ same);
+      }
+
+module _ (t : List ℕ) (j : Judged t) where
+  judged-slash : Judged (slash ∷ t)
+  unfolding nextSeen isOutside isPrintable upTo starts sameOf
+  judged-slash = record {
+    anything = step slash t 0 1 (λ e. omega arith) refl ∙ j .nothing ∙ behind-slash t;
+    nothing = step slash t 1 4 (λ e. omega arith) refl ∙ refused-ends t ∙ sym (and-false (free (slash ∷ t)));
+    dot = step slash t 2 4 (λ e. omega arith) refl ∙ refused-ends t ∙ sym (and-false (free (slash ∷ t)));
+    dots = step slash t 3 4 (λ e. omega arith) refl ∙ refused-ends t ∙ sym (and-false (free (slash ∷ t)));
+  }
+
+  judged-dot : Judged (46 ∷ t)
+  unfolding nextSeen isOutside isPrintable upTo starts sameOf
+  judged-dot =
+      let same : free t ≡ free (46 ∷ t) = sym (free-other 46 t refl refl) in
+      record {
+        anything = step 46 t 0 0 (λ e. omega arith) refl ∙ j .anything ∙ same;
+        nothing = step 46 t 1 2 (λ e. omega arith) refl ∙ j .dot ∙ ap (λ (b : Bool). b && not (goes "" t || goes "." t)) same;
+        dot = step 46 t 2 3 (λ e. omega arith) refl ∙ j .dots ∙ ap (λ (b : Bool). b && not (goes "" t)) same;
+        dots = step 46 t 3 0 (λ e. omega arith) refl ∙ j .anything ∙ same ∙ sym (and-true (free (46 ∷ t)));
+      }
+
+judged : (t : List ℕ) → Judged t
+unfolding seenBy isRewritten has starts segments upTo among allOf sameOf
+judged [] = record { anything = refl; nothing = refl; dot = refl; dots = refl }
+judged (c ∷ t) = by (isOutside c) refl (eqb c slash) refl (eqb c 46) refl (judged t)
+  where
+    by : (o : Bool) → isOutside c ≡ o → (u : Bool) → eqb c slash ≡ u → (v : Bool) → eqb c 46 ≡ v → Judged t → Judged (c ∷ t)
+    by true o u e v f j = judged-outside c t o
+    by false o true e v f j = subst (λ (x : ℕ). Judged (x ∷ t)) (sym (eqb-true c slash e)) (judged-slash t j)
+    by false o false e true f j = subst (λ (x : ℕ). Judged (x ∷ t)) (sym (eqb-true c 46 f)) (judged-dot t j)
+    by false o false e false f j = judged-other c t o e f j
+
+-- so a path is judged by what is seen of it behind its first "/"
+pub path-judged : (s : List ℕ) → 0 < length s → getD s 0 0 ≡ slash → ltb (seenBy 1 (drop 1 s)) 2 ≡ contentOf Path s
+unfolding contentOf allOf isPrintable
+path-judged [] h e = let z : ⊥ = omega arith in elim z [ ]
+path-judged (c ∷ t) h e = subst (λ (x : ℕ). ltb (seenBy 1 t) 2 ≡ contentOf Path (x ∷ t)) (sym e) (judged t .nothing ∙ behind-slash t)
+
+-- a text that does not begin with "/"
+pub no-slash : (s : List ℕ) → (getD s 0 0 ≡ slash → ⊥) → false ≡ contentOf Path s
+unfolding contentOf
+no-slash s h = rw (ne-eqb _ _ h)
+
+pub no-path : (s : List ℕ) → length s ≡ 0 → false ≡ contentOf Path s
+no-path [] h = no-slash [] (λ e. omega arith)
+no-path (c ∷ t) h = let z : ⊥ = omega arith in elim z [ ]
+
+-- in blocks of a path
+pub record Read (s : List ℕ) (seen i : ℕ) : Type 0 where
+  pub inside : i ≤ length s
+  pub known : seen ≤ 4
+  pub rest : seenBy seen (drop i s) ≡ seenBy 1 (drop 1 s)
+
+pub read-first : (s : List ℕ) → (length s ≡ 0 → ⊥) → Read s 1 1
+read-first s h = record { inside = omega (arith, h); known = omega arith; rest = refl }
+
+module _ (s : List ℕ) (seen i : ℕ) (w : Read s seen i) where
+  pub read-block : (next n : ℕ) → i + n ≤ length s → next ≡ seenBy seen (take (i + n - i) (drop i s)) → Read s next (i + n)
+  read-block next n h e =
+      let z : i + n - i ≡ n = omega arith in
+      let k : next ≡ seenBy seen (take n (drop i s)) = rw z at e in
+      record {
+        inside = h;
+        known = subst (λ (x : ℕ). x ≤ 4) (sym k) (seen-range seen (take n (drop i s)) (w .known));
+        rest = rw k (ap (seenBy (seenBy seen (take n (drop i s)))) (sym (drop-drop n i s)) ∙ seen-joined n seen (drop i s) ∙ w .rest);
+      }
+
+  pub read-all : (length s ≡ 0 → ⊥) → getD s 0 0 ≡ slash → (last : ℕ) → last ≡ seenBy seen (take (length s - i) (drop i s)) → ltb last 2 ≡ contentOf Path s
+  read-all h g last e =
+      let z : take (length s - i) (drop i s) ≡ drop i s = take-all (length s - i) (drop i s) (simp length-drop (omega arith)) in
+      ap (λ (k : ℕ). ltb k 2) (e ∙ ap (seenBy seen) z ∙ w .rest) ∙ path-judged s (omega (arith, h)) g
