@@ -100,6 +100,7 @@ fn caveats() {
         b"\xa2atkpath_prefixavj/o/b3:abcd",
     );
     show_caveat(b"path_prefix of no bytes: ", b"\xa2atkpath_prefixav`");
+    rewritten();
     show_caveat(b"an unknown t: ", b"\xa2atgexpiresav\x01");
     show_caveat(b"v before t: ", b"\xa2av\x01atcexp");
     show_caveat(b"a third entry: ", b"\xa3atcexpav\x1aiU\xb9\x00");
@@ -117,6 +118,34 @@ fn caveats() {
     );
 }
 
+// What proxies rewrite (document 02, M-106), of each kind one, and what they leave.
+fn rewritten() {
+    show_caveat(
+        b"path_prefix /relay/%31: ",
+        b"\xa2atkpath_prefixavj/relay/%31",
+    );
+    show_caveat(
+        b"path_prefix /relay//1: ",
+        b"\xa2atkpath_prefixavi/relay//1",
+    );
+    show_caveat(
+        b"path_prefix /relay/./1: ",
+        b"\xa2atkpath_prefixavj/relay/./1",
+    );
+    show_caveat(
+        b"path_prefix /relay/1/..: ",
+        b"\xa2atkpath_prefixavk/relay/1/..",
+    );
+    show_caveat(
+        b"path_prefix /relay/.1: ",
+        b"\xa2atkpath_prefixavi/relay/.1",
+    );
+    show_caveat(
+        b"path_prefix /relay/1/: ",
+        b"\xa2atkpath_prefixavi/relay/1/",
+    );
+}
+
 fn scopes() {
     show_scope(b"scope with GET only: ", b"\xa1gmethods\x81cGET");
     show_scope(
@@ -124,6 +153,22 @@ fn scopes() {
         b"\xa2imax_bytes\x05gmethods\x80",
     );
     show_scope(b"scope with prefix alone: ", b"\xa1fprefixb/a");
+    show_scope(
+        b"scope with prefix /relay/%31: ",
+        b"\xa2fprefixj/relay/%31gmethods\x81cGET",
+    );
+    show_scope(
+        b"scope with prefix /relay//1: ",
+        b"\xa2fprefixi/relay//1gmethods\x81cGET",
+    );
+    show_scope(
+        b"scope with prefix /relay/./1: ",
+        b"\xa2fprefixj/relay/./1gmethods\x81cGET",
+    );
+    show_scope(
+        b"scope with prefix /relay/1/..: ",
+        b"\xa2fprefixk/relay/1/..gmethods\x81cGET",
+    );
     show_scope(
         b"seventeen methods: ",
         b"\xa1gmethods\x91cGETcGETcGETcGETcGETcGETcGETcGETcGETcGETcGETcGETcGETcGETcGETcGETcGET",
@@ -159,6 +204,10 @@ fn tokens() {
     show_token(
         b"a caveat with ip_cidr 10.0.0.1/8: ",
         b"pmFjgaJhdGdpcF9jaWRyYXZqMTAuMC4wLjEvOGFyoWdtZXRob2RzgWNHRVRhc1ggAAECAwQFBgcICQoLDA0ODxAREhMUFRYXGBkaGxwdHh9hdgFja2lkYWtjdGlkYXQ",
+    );
+    show_token(
+        b"a token with scope prefix /relay//1: ",
+        b"pmFjgGFyomZwcmVmaXhpL3JlbGF5Ly8xZ21ldGhvZHOBY0dFVGFzWCAAAQIDBAUGBwgJCgsMDQ4PEBESExQVFhcYGRobHB0eH2F2AWNraWRha2N0aWRhdA",
     );
 }
 

@@ -1,4 +1,4 @@
-// Runs document 01's examples that verify can show, and document 02's of a prefix and a path: for each a line
+// Runs document 01's examples that verify can show, and document 02's of prefixes and paths: for each a line
 // that says "allow", or "deny " and the name of the reason.
 //
 // All bytes stand here as document 01's rules make them, written without the product's code. A token's
@@ -272,6 +272,83 @@ fn slashes() {
     );
 }
 
+// What proxies rewrite (document 02, M-106), of each kind one: in a request; and in old tokens, which were readable
+// before and whose tags are right.
+fn show_rewritten(path: &[u8], request: &[u8], scope: &[u8], caveat: &[u8]) {
+    io::write_all(STDOUT_FILENO, b"path ");
+    io::write_all(STDOUT_FILENO, path);
+    show_asked(
+        b": ",
+        request,
+        b"pmFjgGFyoWdtZXRob2RzgWNHRVRhc1gg1LkAvHZ-TOaDZFIaxXS1MQrPO4ELXxUPIjBJn-qTvYdhdgFja2lka2tpZC0yMDI1LTEwY3RpZGh0ZW5hbnQtMQ",
+    );
+    io::write_all(STDOUT_FILENO, b"scope prefix ");
+    io::write_all(STDOUT_FILENO, path);
+    show_token(b": ", scope);
+    io::write_all(STDOUT_FILENO, b"path_prefix ");
+    io::write_all(STDOUT_FILENO, path);
+    show_token(b": ", caveat);
+}
+
+fn rewritten() {
+    show_rewritten(
+        b"/relay/%31",
+        b"\0\0\0\0\0\0\0\0\
+          \0\0\0\0\0\0\0\0\
+          \x2c\x01\0\
+          \x03\0GET\x0a\0/relay/%31\x08\0tenant-1",
+        b"pmFjgGFyomZwcmVmaXhqL3JlbGF5LyUzMWdtZXRob2RzgWNHRVRhc1ggLoT0oMG8xm0FhF67zEe8Zi33ZJkMtQWZZt5XV74J3lNhdgFja2lka2tpZC0yMDI1LTEwY3RpZGh0ZW5hbnQtMQ",
+        b"pmFjgaJhdGtwYXRoX3ByZWZpeGF2ai9yZWxheS8lMzFhcqFnbWV0aG9kc4FjR0VUYXNYIAmjsT5_6vMn5Aq_W70KJB1H0iaPLR3tYi8hTtPd7mt9YXYBY2tpZGtraWQtMjAyNS0xMGN0aWRodGVuYW50LTE",
+    );
+    show_rewritten(
+        b"/relay//1",
+        b"\0\0\0\0\0\0\0\0\
+          \0\0\0\0\0\0\0\0\
+          \x2c\x01\0\
+          \x03\0GET\x09\0/relay//1\x08\0tenant-1",
+        b"pmFjgGFyomZwcmVmaXhpL3JlbGF5Ly8xZ21ldGhvZHOBY0dFVGFzWCApI5fjMEU_En4-DxYHrhaM1he9RMQSqxS0lq0_kTSbZ2F2AWNraWRra2lkLTIwMjUtMTBjdGlkaHRlbmFudC0x",
+        b"pmFjgaJhdGtwYXRoX3ByZWZpeGF2aS9yZWxheS8vMWFyoWdtZXRob2RzgWNHRVRhc1gg2rgcKBR9mhmduXq1gIyVREjGLNWxq_nDcLeOf3Mq2PVhdgFja2lka2tpZC0yMDI1LTEwY3RpZGh0ZW5hbnQtMQ",
+    );
+    show_rewritten(
+        b"/relay/./1",
+        b"\0\0\0\0\0\0\0\0\
+          \0\0\0\0\0\0\0\0\
+          \x2c\x01\0\
+          \x03\0GET\x0a\0/relay/./1\x08\0tenant-1",
+        b"pmFjgGFyomZwcmVmaXhqL3JlbGF5Ly4vMWdtZXRob2RzgWNHRVRhc1ggVGLjFByVS0ZdhdsSHJDfVda73xuksjo2-AR4MYeQLzRhdgFja2lka2tpZC0yMDI1LTEwY3RpZGh0ZW5hbnQtMQ",
+        b"pmFjgaJhdGtwYXRoX3ByZWZpeGF2ai9yZWxheS8uLzFhcqFnbWV0aG9kc4FjR0VUYXNYIFykPg56YWOixHmRarWZRvw1YnXUrLZQzGhtuymtL7S3YXYBY2tpZGtraWQtMjAyNS0xMGN0aWRodGVuYW50LTE",
+    );
+    show_rewritten(
+        b"/relay/1/..",
+        b"\0\0\0\0\0\0\0\0\
+          \0\0\0\0\0\0\0\0\
+          \x2c\x01\0\
+          \x03\0GET\x0b\0/relay/1/..\x08\0tenant-1",
+        b"pmFjgGFyomZwcmVmaXhrL3JlbGF5LzEvLi5nbWV0aG9kc4FjR0VUYXNYIO2sFUOsetcX9JsLPgqbKi-7ha_3E2OIlnkOVXOE4SGlYXYBY2tpZGtraWQtMjAyNS0xMGN0aWRodGVuYW50LTE",
+        b"pmFjgaJhdGtwYXRoX3ByZWZpeGF2ay9yZWxheS8xLy4uYXKhZ21ldGhvZHOBY0dFVGFzWCDSpp2QBI-imwekY-uvppl-gNLnbbbheV-lSrEH2BfABGF2AWNraWRra2lkLTIwMjUtMTBjdGlkaHRlbmFudC0x",
+    );
+}
+
+// Dots that are no segment of their own.
+fn dotted() {
+    show_asked(
+        b"scope prefix /relay/.1, path /relay/.1: ",
+        b"\0\0\0\0\0\0\0\0\
+          \0\0\0\0\0\0\0\0\
+          \x2c\x01\0\
+          \x03\0GET\x09\0/relay/.1\x08\0tenant-1",
+        b"pmFjgGFyomZwcmVmaXhpL3JlbGF5Ly4xZ21ldGhvZHOBY0dFVGFzWCCcDGKH6OL0tjY1-j4AOcF_HI4XRkwavHjTKHaUaB0-i2F2AWNraWRra2lkLTIwMjUtMTBjdGlkaHRlbmFudC0x",
+    );
+    show_asked(
+        b"scope prefix /relay/.../1, path /relay/.../1: ",
+        b"\0\0\0\0\0\0\0\0\
+          \0\0\0\0\0\0\0\0\
+          \x2c\x01\0\
+          \x03\0GET\x0c\0/relay/.../1\x08\0tenant-1",
+        b"pmFjgGFyomZwcmVmaXhsL3JlbGF5Ly4uLi8xZ21ldGhvZHOBY0dFVGFzWCCFoleWPlaTBZ2g91fD5pUAlvYmkrT-i5iI7V7Wg5jc6mF2AWNraWRra2lkLTIwMjUtMTBjdGlkaHRlbmFudC0x",
+    );
+}
+
 fn methods() {
     show_token(
         b"no methods in the scope: ",
@@ -343,6 +420,8 @@ fn main() {
     prefixes();
     relays();
     slashes();
+    rewritten();
+    dotted();
     methods();
     sample();
     keys_and_tags();

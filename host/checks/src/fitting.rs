@@ -2,7 +2,7 @@
 //! request says, since it is there that slips of a rule show.
 
 use crate::requests::Request;
-use crate::strings::{digest, method, other, other_name, printable};
+use crate::strings::{cleaned, digest, method, other, other_name, printable};
 use crate::tree::Node;
 use crate::trees::{self, caveat_of, KINDS};
 use crate::Seeded;
@@ -89,7 +89,8 @@ fn no_prefix_of(request: &Request, seeded: &mut Seeded) -> Node {
     let mut prefixes: Vec<Vec<u8>> = some.into_iter().flatten().map(|&length| path[..length].to_vec()).collect();
     if path.len() < PREFIX {
         prefixes.push([path, &b"x"[..]].concat());
-        prefixes.push([path, &b"/"[..]].concat());
+        let next = if path.ends_with(b"/") { b"y" } else { b"/" };
+        prefixes.push([path, &next[..]].concat());
     }
     if longest > 1 {
         let length = 2 + seeded.below(longest - 1);
@@ -102,6 +103,8 @@ fn no_prefix_of(request: &Request, seeded: &mut Seeded) -> Node {
             prefixes.push(prefix);
         }
     }
+    // Within a segment "/.a" lies "/.", which no prefix may be.
+    let prefixes: Vec<Vec<u8>> = prefixes.into_iter().map(cleaned).collect();
     Node::text(&one(prefixes, seeded))
 }
 

@@ -1,6 +1,8 @@
 //! Good requests from a seed, with the parts that are asked for, and what is done to one piece of a
 //! request to make bad ones.
 
+use std::mem;
+
 use second::request::{self, Rate};
 
 use crate::inputs;
@@ -160,7 +162,14 @@ fn change_text(request: &mut Request, seeded: &mut Seeded) {
     match seeded.below(4) {
         0 => request.method = strings::other(&request.method, *b"XY", 16, seeded),
         1 => request.tenant = strings::other_name(&request.tenant, seeded),
-        2 if request.path.len() > 1 => request.path.truncate(1 + seeded.below(request.path.len())),
-        _ => request.path.resize((request.path.len() + 1).min(1024), b'/'),
+        2 if request.path.len() > 1 => {
+            request.path.truncate(1 + seeded.below(request.path.len()));
+            request.path = strings::cleaned(mem::take(&mut request.path));
+        }
+        _ => {
+            let next = if request.path.ends_with(b"/") { b'x' } else { b'/' };
+            request.path.resize((request.path.len() + 1).min(1024), next);
+            request.path = strings::cleaned(mem::take(&mut request.path));
+        }
     }
 }

@@ -43,7 +43,50 @@ pub fn path(most: usize, seeded: &mut Seeded) -> Vec<u8> {
     let mut path = printable(most, seeded);
     path.iter_mut().filter(|byte| byte.is_ascii_uppercase()).for_each(|byte| *byte = b'/');
     path[0] = b'/';
+    cleaned(path)
+}
+
+/// A path that begins with "/", with something else where proxies would rewrite it (document 02, M-106): "$"
+/// for "%", and "_" for the second of two slashes and for the last dot of a segment "." or "..".
+pub fn cleaned(mut path: Vec<u8>) -> Vec<u8> {
+    for at in 1..path.len() {
+        match path[at] {
+            b'%' => path[at] = b'$',
+            b'/' if path[at - 1] == b'/' => path[at] = b'_',
+            _ => {}
+        }
+    }
+    for at in 1..path.len() {
+        let ends = path.get(at + 1).map_or(true, |&next| next == b'/');
+        if ends && (path[..=at].ends_with(b"/.") || path[..=at].ends_with(b"/..")) {
+            path[at] = b'_';
+        }
+    }
     path
+}
+
+/// What a proxy makes of a path: slashes in a row become one, a segment "." goes, and ".." takes the one before
+/// it away. RFC 3986, 5.2.4, and what is done besides; a percent sign is left, since what it stands for is not known.
+pub fn proxied(path: &[u8]) -> Vec<u8> {
+    let mut kept: Vec<&[u8]> = Vec::new();
+    let segments: Vec<&[u8]> = path.split(|&byte| byte == b'/').skip(1).collect();
+    for (at, &segment) in segments.iter().enumerate() {
+        let last = at + 1 == segments.len();
+        match segment {
+            b".." => drop(kept.pop()),
+            b"." | b"" => {}
+            _ => kept.push(segment),
+        }
+        if last && matches!(segment, b"" | b"." | b"..") {
+            kept.push(b"");
+        }
+    }
+    kept.iter().flat_map(|segment| [&b"/"[..], segment].concat()).collect()
+}
+
+/// Whether a text of printable bytes that begins with "/" comes through every proxy as it is.
+pub fn comes_through(path: &[u8]) -> bool {
+    !path.contains(&b'%') && proxied(path) == path
 }
 
 /// Another text near this one, of at most `most` bytes: with one byte more, one less or another one, or a

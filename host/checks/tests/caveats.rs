@@ -164,7 +164,7 @@ fn strings_of_every_length() {
     for length in (0..=260).chain([511, 512, 4096]).chain(65_535..=65_601) {
         let (content, a) = (|byte| vec![byte; length], || Node::text(b"a"));
         lengths(&mut beside, "aud", content(b'~'), (1, 128), 5);
-        lengths(&mut beside, "path_prefix", content(b'/'), (1, 256), 5);
+        lengths(&mut beside, "path_prefix", b"/p".repeat(length)[..length].to_vec(), (1, 256), 5);
         lengths(&mut beside, "tenant", content(b'-'), (1, 64), 5);
         lengths(&mut beside, KINDS[DIGEST], content(b'f'), (64, 64), 4);
         // A wrong length of the digest is told at its head even where its content is bad too.

@@ -155,7 +155,7 @@ fn the_longest_fresh_token_has_752_bytes() {
     case.row = Row::new(&[b'i'; 64], &[b'k'; 64], &mut seeded);
     case.rows = vec![case.row.clone()];
     case.scope = Node::map(vec![
-        ("prefix", Node::text(&[b'/'; 256])),
+        ("prefix", Node::text(&b"/p".repeat(128))),
         ("methods", Node::array(vec![Node::text(&[b'M'; 16]); 16])),
         ("max_bytes", Node::number(u64::MAX)),
     ]);

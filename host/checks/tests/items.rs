@@ -326,7 +326,7 @@ fn long_strings_and_arrays() {
     let mut seeded = Seeded(51);
     let mut beside = Beside::default();
     for length in [255, 256, 4095, 4096, 60_000, 65_535, 65_536, 70_000] {
-        let strings = [inputs::string(2, &seeded.bytes(length)), inputs::string(3, &vec![b'/'; length])];
+        let strings = [inputs::string(2, &seeded.bytes(length)), inputs::string(3, &b"/p".repeat(length)[..length])];
         let flat = [inputs::head(4, length as u64), vec![0xf6; length]].concat();
         let empties = [inputs::head(4, length as u64), vec![0x80; length]].concat();
         for item in strings.iter().chain([&flat, &empties]) {

@@ -1,6 +1,7 @@
-//! Prefixes and paths about the edge where one ends (document 02, M-100): the proved verify beside the second
-//! program's, with the prefix in the scope, in a path_prefix or in both, and either beside the sentence put
-//! another way: a path is the prefix, or begins with the prefix and one "/" that is its last byte or follows it.
+//! Prefixes and paths about the edge where one ends (document 02, M-100), of those that may stand (M-106): the
+//! proved verify beside the second program's, with the prefix in the scope, in a path_prefix or in both, and either
+//! beside the sentence put another way: a path is the prefix, or begins with the prefix and one "/" that is its last
+//! byte or follows it. And the same segment by segment.
 
 use checks::cases::{fitting_for, Case};
 use checks::requests::{self, Request};
@@ -13,6 +14,8 @@ use checks::Seeded;
 /// How many pairs are compared from a seed.
 const PAIRS: usize = 50_000;
 
+const CTX_BAD: u32 = 2;
+const PARSE_CBOR: u32 = 4;
 const PATH: u32 = 11;
 
 /// The longest prefix and the longest path.
@@ -20,7 +23,18 @@ const LONGEST: (usize, usize) = (256, 1024);
 
 fn wanted(prefix: &[u8], path: &[u8]) -> u32 {
     let folder = [prefix.strip_suffix(b"/").unwrap_or(prefix), b"/"].concat();
-    if path == prefix || path.starts_with(&folder) { 0 } else { PATH }
+    let fits = path == prefix || path.starts_with(&folder);
+    assert_eq!(fits, by_segments(prefix, path));
+    if fits { 0 } else { PATH }
+}
+
+/// A prefix's segments are the first ones of the path; without its last one if that is empty, and then the path
+/// has one more.
+fn by_segments(prefix: &[u8], path: &[u8]) -> bool {
+    let [mut front, all] = [prefix, path].map(|text| text.split(|&byte| byte == b'/').collect::<Vec<_>>());
+    let folder = front.last() == Some(&&b""[..]);
+    front.truncate(front.len() - usize::from(folder));
+    all.starts_with(&front) && all.len() >= front.len() + usize::from(folder)
 }
 
 /// A case in which all but the path holds, with the prefix in the scope (0), in a caveat (1) or in both (2).
@@ -57,7 +71,7 @@ fn near(seeded: &mut Seeded) -> (Vec<u8>, Vec<u8>) {
     path[0] = b'/';
     prefix.truncate(LONGEST.0);
     path.truncate(LONGEST.1);
-    (prefix, path)
+    (strings::cleaned(prefix), strings::cleaned(path))
 }
 
 #[test]
@@ -72,13 +86,13 @@ fn pairs_about_the_edge() {
     verdicts.met(PAIRS, [0, PATH], PAIRS / 4);
 }
 
-/// Every text of 1 to `most` bytes that begins with a "/" and goes on with "/", "1" and "?".
+/// Every text of 1 to `most` bytes that begins with a "/" and goes on with "/", "1" and ".".
 fn short(most: usize) -> Vec<Vec<u8>> {
     let mut all = vec![b"/".to_vec()];
     for length in 1..most {
         let last = all.iter().filter(|text| text.len() == length);
         let longer: Vec<Vec<u8>> =
-            last.flat_map(|text| b"/1?".map(|byte| [&text[..], &[byte]].concat())).collect();
+            last.flat_map(|text| b"/1.".map(|byte| [&text[..], &[byte]].concat())).collect();
         all.extend(longer);
     }
     all
@@ -92,8 +106,13 @@ fn every_short_prefix_and_every_short_path() {
     for prefix in &prefixes {
         for (turn, path) in paths.iter().enumerate() {
             let case = placed(prefix, path, turn % 3, &mut seeded);
-            verdicts.expect(&case.laid(), wanted(prefix, path));
+            let wanted = match (strings::comes_through(path), strings::comes_through(prefix)) {
+                (false, _) => CTX_BAD,
+                (true, false) => PARSE_CBOR,
+                (true, true) => wanted(prefix, path),
+            };
+            verdicts.expect(&case.laid(), wanted);
         }
     }
-    verdicts.met(prefixes.len() * paths.len(), [0, PATH], 900);
+    verdicts.met(prefixes.len() * paths.len(), [0, CTX_BAD, PARSE_CBOR, PATH], 200);
 }

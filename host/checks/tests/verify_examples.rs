@@ -1,4 +1,4 @@
-//! Document 01's examples about verify, document 02's of a prefix and a path, and the sample of document 004
+//! Document 01's examples about verify, document 02's of prefixes and paths, and the sample of document 004
 //! by document 01's rules. The bytes are written out here, so that nothing that makes other tests' inputs has
 //! a part in them.
 
@@ -133,14 +133,32 @@ fn relay_1_is_not_relay_12() {
 
 #[test]
 fn a_prefix_that_ends_in_a_slash() {
-    for path in ["/relay/1/", "/relay/1/count", "/relay/1/?", "/relay/1//"] {
+    for path in ["/relay/1/", "/relay/1/count", "/relay/1/?", "/relay/1/.a"] {
         assert!(fits("/relay/1/", path), "{path}");
     }
     for path in ["/relay/1", "/relay/12", "/relay/12/", "/relay/"] {
         assert!(!fits("/relay/1/", path), "{path}");
     }
-    for path in ["/", "//", "/relay", "/relay/12", "/?", "/#"] {
+    for path in ["/", "/...", "/relay", "/relay/12", "/?", "/#"] {
         assert!(fits("/", path), "{path}");
+    }
+}
+
+/// Document 02, M-106: one of each kind that proxies rewrite. A request for it is bad, and a token with it, which
+/// was readable before, is no longer.
+#[test]
+fn what_proxies_rewrite_is_refused() {
+    for path in ["/relay//1", "/relay/1//", "//", "/relay/./1", "/relay/1/.", "/relay/../1", "/relay/1/..", "/%31", "/.", "/.."] {
+        assert_eq!(verify(&table(), &request(0, path, None), &text(SCOPE, &[])), 2, "{path}");
+        let said = [&[0x60 + path.len() as u8], path.as_bytes()].concat();
+        let scope = [b"\xa2\x66prefix", &said[..], b"\x67methods\x81\x63GET"].concat();
+        let caveat = [b"\xa2\x61t\x6bpath_prefix\x61v", &said[..]].concat();
+        for text in [text(&scope, &[]), text(SCOPE, &[&caveat])] {
+            assert_eq!(verify(&table(), &request(0, "/relay/1", None), &text), 4, "{path}");
+        }
+    }
+    for path in ["/relay/.1", "/relay/1.", "/relay/...", "/..a/1", "/relay/1/", "/", "/.?x"] {
+        assert!(fits("/", path) && fits(path, path), "{path}");
     }
 }
 

@@ -20,6 +20,9 @@ pub const METHOD: &str = "a method is 1 to 16 letters A to Z";
 pub const METHODS: &str = "a list has at most 16 methods";
 pub const PREFIX: &str = "a path prefix is 1 to 256 characters from ! to ~, the first of them /";
 pub const PATH: &str = "a path is 1 to 1,024 characters from ! to ~, the first of them /";
+pub const PERCENT: &str = "a path has no %, since proxies rewrite what stands behind it";
+pub const SLASHES: &str = "a path has no //, since proxies make one / of it";
+pub const DOTS: &str = "no segment of a path is . or .., since proxies resolve these";
 pub const NAME: &str = "1 to 64 letters, digits, -, . and _ are needed";
 pub const AUDIENCE: &str = "an audience is 1 to 128 characters from ! to ~";
 pub const DIGEST: &str = "a digest has 64 hex digits";
@@ -57,6 +60,23 @@ fn methods_fault(option: &str, list: &[String]) -> Fault {
     bad.map(|method| (format!("--{option} {}", said(method)), METHOD))
 }
 
+/// Why a path is refused: its form of so many characters, or what proxies would rewrite in it.
+fn path_rule(path: &str, most: usize, form: &'static str) -> &'static str {
+    let formed = path.starts_with('/') && path.len() <= most && path.bytes().all(|byte| byte.is_ascii_graphic());
+    let segment = |text: &str| path.split('/').any(|segment| segment == text);
+    match path {
+        _ if !formed => form,
+        _ if path.contains('%') => PERCENT,
+        _ if path.contains("//") => SLASHES,
+        _ if segment(".") || segment("..") => DOTS,
+        _ => form,
+    }
+}
+
+fn prefix_rule(prefix: &str) -> &'static str {
+    path_rule(prefix, 256, PREFIX)
+}
+
 pub fn scope<T>(words: &ScopeWords, answer: u32) -> Done<T> {
     let methods = words.methods.as_ref().and_then(|methods| methods_fault("methods", &methods.0));
     let prefix = words.prefix.as_ref().filter(|prefix| {
@@ -64,7 +84,7 @@ pub fn scope<T>(words: &ScopeWords, answer: u32) -> Done<T> {
         scope_answer(&scope_of(&ScopeWords { prefix, methods, max_bytes: None })) != 0
     });
     // In the order of the scope's bytes, so that the fault named is the one that was answered.
-    let prefix = prefix.map(|prefix| (format!("--prefix {}", said(prefix)), PREFIX));
+    let prefix = prefix.map(|prefix| (format!("--prefix {}", said(prefix)), prefix_rule(prefix)));
     told(answer, prefix.or(methods), "the scope")
 }
 
@@ -82,11 +102,12 @@ pub fn request<T>(words: &RequestWords, answer: u32) -> Done<T> {
     let taken = |words: RequestWords| request_answer(&request::body(&words, 0)) == 0;
     let plain = || RequestWords::plain("t");
     let skew = words.skew.map(|skew| skew.to_string());
+    let path = path_rule(words.path.as_deref().unwrap_or_default(), 1024, PATH);
     let words_alone = [
         ("skew", &skew, SKEW, RequestWords { skew: words.skew, ..plain() }),
         ("digest", &words.digest, DIGEST, RequestWords { digest: words.digest.clone(), ..plain() }),
         ("method", &words.method, METHOD, RequestWords { method: words.method.clone(), ..plain() }),
-        ("path", &words.path, PATH, RequestWords { path: words.path.clone(), ..plain() }),
+        ("path", &words.path, path, RequestWords { path: words.path.clone(), ..plain() }),
         ("tenant", &words.tenant, NAME, RequestWords { tenant: words.tenant.clone(), ..plain() }),
         ("aud", &words.aud, AUDIENCE, RequestWords { aud: words.aud.clone(), ..plain() }),
     ];
@@ -141,9 +162,9 @@ pub fn caveat<T>(caveat: &Caveat, what: &str, answer: u32) -> Done<T> {
                 None => refused(answer, what, None),
             };
         }
-        Value::Text(_) => match caveat.option {
+        Value::Text(text) => match caveat.option {
             "aud" => Some(AUDIENCE),
-            "path-prefix" => Some(PREFIX),
+            "path-prefix" => Some(prefix_rule(text)),
             "ip-cidr" => Some(NETWORK),
             "tenant" => Some(NAME),
             "gov-policy-digest" => Some(DIGEST),

@@ -286,6 +286,21 @@ const RULES: &[Rule] = &[
         &["request --method A --tenant t --path /$(printf %01024d 0)", "request --method A --tenant t --path ''", "request --method A --tenant t --path x", "request --method A --tenant t --path '/ '"],
     ),
     (
+        "a path has no %, since proxies rewrite what stands behind it",
+        &["request --method A --tenant t --path /\\$2f"],
+        &["request --method A --tenant t --path /%2f", "scope --methods A --prefix /a%", "caveat --path-prefix /%//.."],
+    ),
+    (
+        "a path has no //, since proxies make one / of it",
+        &["request --method A --tenant t --path /a/b/", "scope --methods A --prefix /a/", "caveat --path-prefix /a/-/b"],
+        &["request --method A --tenant t --path /a//b", "scope --methods A --prefix //", "caveat --path-prefix /a//"],
+    ),
+    (
+        "no segment of a path is . or .., since proxies resolve these",
+        &["request --method A --tenant t --path /.a/a./...", "scope --methods A --prefix /..a", "caveat --path-prefix /a../"],
+        &["request --method A --tenant t --path /a/../b", "request --method A --tenant t --path /.", "scope --methods A --prefix /a/..", "caveat --path-prefix /./a"],
+    ),
+    (
         "1 to 64 letters, digits, -, . and _ are needed",
         &["request --method A --path / --tenant aZ09-._", "caveat --tenant $(printf %064d 0)", "caveat --custom a/b=00", "table --new $(printf %064d 0)/$(printf %064d 0)"],
         &["request --method A --path / --tenant ''", "request --method A --path / --tenant a/b", "caveat --tenant $(printf %065d 0)", "caveat --tenant é", "caveat --custom /b=00", "caveat --custom a/$(printf %065d 0)=00", "table --new $(printf %065d 0)/k", "table --new t/$(printf %0256d 0)", "table --new t/", "issue --table keys --methods A --kid k2 --tid ''"],

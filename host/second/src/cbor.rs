@@ -54,11 +54,19 @@ impl Class {
         match self {
             Class::Name => every(|c| c.is_ascii_alphanumeric() || matches!(c, b'-' | b'.' | b'_')),
             Class::Printable => every(u8::is_ascii_graphic),
-            Class::Path => content.first() == Some(&b'/') && every(u8::is_ascii_graphic),
+            Class::Path => {
+                content.first() == Some(&b'/') && every(u8::is_ascii_graphic) && !rewritten(content)
+            }
             Class::Upper => every(u8::is_ascii_uppercase),
             Class::Hex => every(|c| matches!(c, b'0'..=b'9' | b'a'..=b'f')),
         }
     }
+}
+
+/// Whether a path has what proxies rewrite (document 02, M-106): "%", "//", or a segment "." or "..".
+fn rewritten(path: &[u8]) -> bool {
+    let mut segments = path.split(|&byte| byte == b'/');
+    path.contains(&b'%') || path.windows(2).any(|pair| pair == b"//") || segments.any(|s| s == b"." || s == b"..")
 }
 
 /// The head at `at`, in its shortest form.
@@ -214,5 +222,18 @@ mod tests {
         assert!(Class::Path.admits(b"/") && Class::Path.admits(b"/~!a"));
         assert!(!Class::Path.admits(b"") && !Class::Path.admits(b"a/") && !Class::Path.admits(b"/ "));
         assert_eq!(string(&[0x60], 0, Class::Path, 0, 9), Err(malformed(1)));
+    }
+
+    #[test]
+    fn a_path_has_nothing_that_proxies_rewrite() {
+        for path in ["/", "/a/", "/.a", "/a.", "/...", "/..a", "/a..", "/a/.b/", "/a/b..", "/.?x", "/-.", "/.../."] {
+            assert_eq!(Class::Path.admits(path.as_bytes()), path != "/.../.", "{path}");
+        }
+        for path in ["/%", "/a%2e", "//", "/a//", "//a", "/a//b", "/.", "/..", "/./", "/../", "/a/.", "/a/..", "/./a"] {
+            assert!(!Class::Path.admits(path.as_bytes()), "{path}");
+        }
+        assert!(!Class::Path.admits(b"/a?x=//") && !Class::Path.admits(b"/a/../b"));
+        // No other class is touched.
+        assert!(Class::Printable.admits(b"%//./..") && Class::Name.admits(b".") && Class::Name.admits(b".."));
     }
 }

@@ -93,7 +93,7 @@ mod tests {
     #[test]
     fn the_longest_has_752_bytes() {
         let methods = [b"\x70", &[b'M'; 16][..]].concat().repeat(16);
-        let prefix = [&b"\x66prefix\x79\x01\x00"[..], &[b'/'; 256]].concat();
+        let prefix = [&b"\x66prefix\x79\x01\x00"[..], &b"/p".repeat(128)].concat();
         let scope =
             [b"\xa3", &prefix[..], b"\x67methods\x90", &methods, b"\x69max_bytes\x1b", &[255; 8]].concat();
         let id = [b'i'; 64];

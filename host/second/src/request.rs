@@ -214,7 +214,8 @@ mod tests {
 
     #[test]
     fn what_each_field_refuses() {
-        let long = [b'/'; 1025];
+        let long: Vec<u8> = b"p/".iter().copied().cycle().take(1025).collect();
+        let over = [b"/", &long[..]].concat();
         let bad = [
             Fields { skew: 301, ..least() },
             Fields { skew: 0x2c00, ..least() },
@@ -224,7 +225,10 @@ mod tests {
             Fields { path: b"", ..least() },
             Fields { path: b"a", ..least() },
             Fields { path: b"/ ", ..least() },
-            Fields { path: &long, ..least() },
+            Fields { path: b"/%", ..least() },
+            Fields { path: b"/a//", ..least() },
+            Fields { path: b"/a/../b", ..least() },
+            Fields { path: &over, ..least() },
             Fields { tenant: b"", ..least() },
             Fields { tenant: b"/", ..least() },
             Fields { tenant: &[b't'; 65], ..least() },

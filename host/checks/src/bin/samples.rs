@@ -40,7 +40,7 @@ fn main() -> io::Result<()> {
 fn parts() -> [(&'static str, Vec<u8>); 8] {
     let text = |text: &[u8]| Node::text(text);
     let scope = Node::map(vec![
-        ("prefix", text(&[b'/'; 256])),
+        ("prefix", text(&b"/p".repeat(128))),
         ("methods", Node::array(vec![text(&[b'M'; 16]); 16])),
         ("max_bytes", Node::number(u64::MAX)),
     ]);

@@ -107,6 +107,10 @@ fn refused_scopes() -> Vec<Issue> {
             map(vec![list(), ("max_bytes", Node::raw(b"\x1a\0\0\x02\0"))])
         }),
         of(4, "scope-no-methods", "max_bytes alone", map(vec![("max_bytes", Node::number(1))])),
+        of(4, "scope-prefix-percent", "% in the prefix", map(vec![("prefix", words("/relay/%31")), list()])),
+        of(4, "scope-prefix-slashes", "// in the prefix", map(vec![("prefix", words("/relay//1")), list()])),
+        of(4, "scope-prefix-dots", "a segment ..", map(vec![("prefix", words("/relay/..")), list()])),
+        of(0, "scope-prefix-hidden", "a segment .1", map(vec![("prefix", words("/relay/.1")), list()])),
         of(5, "scope-prefix-empty", "an empty prefix", map(vec![("prefix", words("")), list()])),
         of(5, "scope-methods-17", "one method more than there may be", many.laid()),
         of(6, "scope-four-entries", "a map of four", b"\xa4".to_vec()),

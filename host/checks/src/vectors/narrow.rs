@@ -148,6 +148,9 @@ fn unread() -> Vec<Narrow> {
         fresh_by(31, "cidr-bit-past", "10.0.0.1/8 has a bit past the eighth", {
             caveat_of("ip_cidr", words("10.0.0.1/8"))
         }),
+        fresh_by(31, "prefix-slashes", "// in a prefix", caveat_of("path_prefix", words("/relay//1"))),
+        fresh_by(31, "prefix-dots", "a segment ..", caveat_of("path_prefix", words("/relay/.."))),
+        fresh_by(31, "prefix-percent", "% in a prefix", caveat_of("path_prefix", words("/relay/%31"))),
     ]
 }
 

@@ -7,7 +7,8 @@ use crate::cases::{Case, Triple};
 use crate::tables::{self, Row};
 
 pub fn cases() -> Vec<Verify> {
-    [tables_by_rows(), tables_by_bytes(), requests(), requests_at_limits(), texts(), texts_by_length()].concat()
+    let requests = [requests(), requests_rewritten(), requests_at_limits()].concat();
+    [tables_by_rows(), tables_by_bytes(), requests, texts(), texts_by_length()].concat()
 }
 
 /// The table's rows and some before or behind them; no id here comes behind "contractor" but those of the
@@ -72,6 +73,29 @@ fn requests() -> Vec<Verify> {
         verify(2, "request-method-lower", "a method in lower case", asked(|r| r.method = b"get".to_vec()).laid()),
         verify(2, "request-path-relative", "no slash in front", asked(|r| r.path = b"relay/1".to_vec()).laid()),
         verify(2, "request-tenant-empty", "an empty tenant", asked(|r| r.tenant = vec![]).laid()),
+    ]
+}
+
+/// Paths that proxies rewrite (document 02, M-106), and some that they leave.
+fn requests_rewritten() -> Vec<Verify> {
+    let of = |path: &str| {
+        let scope = scope_of(None, &["GET"], None);
+        Case { scope, ..asked(|request| request.path = path.into()) }.laid()
+    };
+    vec![
+        verify(2, "request-path-percent", "% anywhere", of("/relay/%31")),
+        verify(2, "request-path-slashes", "// within", of("/relay//1")),
+        verify(2, "request-path-slashes-alone", "// alone", of("//")),
+        verify(2, "request-path-slashes-last", "// at the end", of("/relay/1//")),
+        verify(2, "request-path-slashes-query", "// behind ?, since there is no query", of("/relay?x=//")),
+        verify(2, "request-path-dot", "a segment .", of("/relay/./1")),
+        verify(2, "request-path-dot-last", "the last segment is .", of("/relay/.")),
+        verify(2, "request-path-dots", "a segment ..", of("/relay/../1")),
+        verify(2, "request-path-dots-last", "the last segment is ..", of("/relay/..")),
+        verify(0, "request-path-hidden", "a segment .1 is neither . nor ..", of("/relay/.1")),
+        verify(0, "request-path-three-dots", "nor is ...", of("/relay/.../1")),
+        verify(0, "request-path-dot-query", "nor is .?x", of("/.?x")),
+        verify(0, "request-path-slash-last", "one / at the end", of("/relay/1/")),
     ]
 }
 

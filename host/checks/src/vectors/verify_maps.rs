@@ -1,6 +1,6 @@
 //! Maps, keys, heads and the edition: what document 01's reading order says of a token's structure.
 
-use super::parts::{bytes, field, fresh, methods, one, scoped, tree, verify, with, words, Verify, TOKEN_KEYS};
+use super::parts::{bytes, field, fresh, methods, one, scope_of, scoped, tree, verify, with, words, Verify, TOKEN_KEYS};
 use crate::cases::Triple;
 use crate::tree::Node;
 use crate::trees::caveat_of;
@@ -88,6 +88,10 @@ fn scopes() -> Vec<Verify> {
             "the prefix is too long, which is met before methods is missed",
             scoped(Node::map(vec![prefix(257)])),
         ),
+        verify(4, "scope-prefix-slashes", "// in the prefix", scoped(scope_of(Some("/relay//1"), &["GET"], None))),
+        verify(4, "scope-prefix-dot", "a segment .", scoped(scope_of(Some("/relay/./1"), &["GET"], None))),
+        verify(4, "scope-prefix-dots", "the last is ..", scoped(scope_of(Some("/relay/.."), &["GET"], None))),
+        verify(4, "scope-prefix-percent", "%", scoped(scope_of(Some("/relay/%31"), &["GET"], None))),
         verify(4, "scope-methods-passed-over", "prefix, max_bytes", scoped(Node::map(vec![prefix(1), most()]))),
         verify(4, "scope-methods-last", "max_bytes before methods", scoped(Node::map(vec![most(), list()]))),
         verify(6, "scope-key-of-token", "kid is known to the token's map alone", {
