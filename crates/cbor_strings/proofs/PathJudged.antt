@@ -1,21 +1,22 @@
 -- What is seen at a path's end decides as document 02's sentence does (M-106): a segment that is "." or ".." there, and what was refused on the way.
-use mathlib.Core.Path.{_≡_, refl, sym, ap, subst, _∙_}
+use mathlib.Core.Path.{_≡_, refl, sym, ap, ap₂, subst, _∙_}
 use mathlib.Core.Bool.{Bool, true, false, not, _&&_, _||_, and-true, and-false, false≢true}
 use mathlib.Core.List.{List, [], _∷_}
-use Prim.Native.Nat.{ℕ, _+_, _-_, _≤_, _<_}
+use Prim.Native.Nat.{ℕ, _+_, _-_, _*_, _/_, _≤_, _<_}
 use Prim.Native.String.{String}
+use native.Mathlib.Numerals.{add-one}
 use native.Mathlib.Omega.{arith}
 use borrow.Author.Tests.{eqb-true, eq-eqb, ne-eqb}
 use lib.Dec.{eqb, ltb}
 use lib.ListN.{length, take, drop, getD, length-drop}
-use lib.Seq.{drop-drop, take-all}
+use lib.Seq.{take-all, length-take-le}
 use Rattle.basis.specs.Basis.{pick, ascii}
 use Rattle.basis.specs.Same.{sameOf}
 use Rattle.cbor_strings.specs.Paths.{slash, starts, has, upTo, segments, among, isRewritten}
 use Rattle.cbor_strings.specs.Strings.{isPrintable, allOf, contentOf}
-use Rattle.cbor_strings.specs.Inner.{isOutside, nextSeen, seenBy}
+use Rattle.cbor_strings.specs.Inner.{isOutside, nextSeen, seenBy, seenBehind, farBy}
 use Rattle.cbor_strings.specs.declared.Class.the-variants.{Path}
-use Rattle.cbor_strings.proofs.PathWalks.{seen-refused, seen-one, seen-joined, seen-range}
+use Rattle.cbor_strings.proofs.PathWalks.{seen-refused, seen-one, far-skips}
 
 -- a text of which nothing is refused, whatever stands before it
 abbrev free : List ℕ → Bool
@@ -159,27 +160,36 @@ pub no-path : (s : List ℕ) → length s ≡ 0 → false ≡ contentOf Path s
 no-path [] h = no-slash [] (λ e. omega arith)
 no-path (c ∷ t) h = let z : ⊥ = omega arith in elim z [ ]
 
--- in blocks of a path
-pub record Read (s : List ℕ) (seen i : ℕ) : Type 0 where
-  pub inside : i ≤ length s
-  pub known : seen ≤ 4
-  pub rest : seenBy seen (drop i s) ≡ seenBy 1 (drop 1 s)
+-- the rest of a path behind so many bytes, which are the first alone or a front where nothing is near
+pub record Read (s : List ℕ) (i : ℕ) : Type 0 where
+  pub inside : i < length s
+  pub rest : seenBy (seenBehind (getD s i 0)) (drop (i + 1) s) ≡ seenBy 1 (drop 1 s)
 
-pub read-first : (s : List ℕ) → (length s ≡ 0 → ⊥) → Read s 1 1
-read-first s h = record { inside = omega (arith, h); known = omega arith; rest = refl }
+pub read-first : (s : List ℕ) → (length s ≡ 0 → ⊥) → getD s 0 0 ≡ slash → Read s 0
+read-first s h e = record { inside = omega (arith, h); rest = rw e }
 
-module _ (s : List ℕ) (seen i : ℕ) (w : Read s seen i) where
-  pub read-block : (next n : ℕ) → i + n ≤ length s → next ≡ seenBy seen (take (i + n - i) (drop i s)) → Read s next (i + n)
-  read-block next n h e =
-      let z : i + n - i ≡ n = omega arith in
-      let k : next ≡ seenBy seen (take n (drop i s)) = rw z at e in
-      record {
-        inside = h;
-        known = subst (λ (x : ℕ). x ≤ 4) (sym k) (seen-range seen (take n (drop i s)) (w .known));
-        rest = rw k (ap (seenBy (seenBy seen (take n (drop i s)))) (sym (drop-drop n i s)) ∙ seen-joined n seen (drop i s) ∙ w .rest);
-      }
+pub read-front : (s : List ℕ) (n : ℕ) → n < length s → getD s 0 0 ≡ slash → farBy (take n s) (take (n + 1 - 1) (drop 1 s)) ≡ true → Read s n
+read-front [] n h e f = let z : ⊥ = omega arith in elim z [ ]
+read-front (a ∷ t) n h e f =
+    let z : n + 1 - 1 ≡ n = omega arith in
+    let skipped = far-skips n a t (omega arith) (rw z at f) in
+    record { inside = h; rest = rw add-one (skipped ∙ ap (λ (x : ℕ). seenBy (seenBehind x) t) e) }
 
-  pub read-all : (length s ≡ 0 → ⊥) → getD s 0 0 ≡ slash → (last : ℕ) → last ≡ seenBy seen (take (length s - i) (drop i s)) → ltb last 2 ≡ contentOf Path s
-  read-all h g last e =
-      let z : take (length s - i) (drop i s) ≡ drop i s = take-all (length s - i) (drop i s) (simp length-drop (omega arith)) in
-      ap (λ (k : ℕ). ltb k 2) (e ∙ ap (seenBy seen) z ∙ w .rest) ∙ path-judged s (omega (arith, h)) g
+pub read-as : {s : List ℕ} {i j : ℕ} → i ≡ j → Read s j → Read s i
+read-as e w = rw e w
+
+-- whole stretches of sixteen behind the first byte
+pub front-inside : (n : ℕ) → (n ≡ 0 → ⊥) → (n - 1) / 16 * 16 < n
+front-inside n h = omega (arith, h)
+
+pub one-before-each : (s : List ℕ) (n : ℕ) → n < length s → length (take (n + 1 - 1) (drop 1 s)) ≤ length (take n s)
+one-before-each s n h =
+    let a : length (take (n + 1 - 1) (drop 1 s)) ≡ n + 1 - 1 = length-take-le (n + 1 - 1) (drop 1 s) (simp length-drop (omega arith)) in
+    let b : length (take n s) ≡ n = length-take-le n s (omega arith) in
+    omega (arith, a, b)
+
+module _ (s : List ℕ) (i : ℕ) (w : Read s i) where
+  pub read-all : getD s 0 0 ≡ slash → (seen last : ℕ) → seen ≡ seenBehind (getD s i 0) → last ≡ seenBy seen (take (length s - (i + 1)) (drop (i + 1) s)) → ltb last 2 ≡ contentOf Path s
+  read-all g seen last p e =
+      let z : take (length s - (i + 1)) (drop (i + 1) s) ≡ drop (i + 1) s = take-all (length s - (i + 1)) (drop (i + 1) s) (simp length-drop (omega arith)) in
+      ap (λ (k : ℕ). ltb k 2) (e ∙ ap₂ seenBy p z ∙ w .rest) ∙ path-judged s (omega (arith, w .inside)) g

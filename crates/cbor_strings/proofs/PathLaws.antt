@@ -14,6 +14,7 @@ use Rattle.cbor_strings.specs.Paths.{slash, percent, starts, has, upTo, 
 use Rattle.cbor_strings.specs.Strings.{isPrintable, allOf, contentOf}
 use Rattle.cbor_strings.specs.Segments.{pathOf, isSegmentByte, GoodSegment, GoodSegments, last, more, Clean}
 use Rattle.cbor_strings.specs.declared.Class.the-variants.{Path}
+use Rattle.cbor_strings.proofs.PathWalks.{neither}
 
 -- every text is what stands before its first "/" and the path of its segments
 pub path-again : (s : List ℕ) → upTo s ++ pathOf (segments s) ≡ s
@@ -62,11 +63,6 @@ begins a c p t = by (eqb a c) refl
 begins-one : (a c : ℕ) (t : List ℕ) → starts (a ∷ []) (c ∷ t) ≡ eqb c a
 unfolding starts
 begins-one a c t = begins a c [] t ∙ and-true (eqb c a)
-
--- neither of two tests
-neither : (a b : Bool) → a || b ≡ false → (a ≡ false) × (b ≡ false)
-neither true b e = absurd (true≢false e)
-neither false b e = (refl, e)
 
 -- fine, by the tests of the definition
 only-fine : (s : List ℕ) → allOf isPrintable s ≡ true → has (ascii "%") s ≡ false → has (ascii "//") s ≡ false → Fine s

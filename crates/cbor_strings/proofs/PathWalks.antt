@@ -1,28 +1,19 @@
 -- A path is judged a byte after the other: what is seen behind each byte, in the terms that the code has, and that it comes to document 02's
 -- sentence (M-106).
 use mathlib.Core.Path.{_≡_, refl, sym, ap, ap₂, _∙_}
-use mathlib.Core.Bool.{Bool, true, false, not, _&&_, _||_, and-true, and-false}
+use mathlib.Core.Bool.{Bool, true, false, not, _&&_, _||_, or-true, or-false, and-eq-true-iff, true≢false, false≢true}
 use mathlib.Core.List.{List, [], _∷_}
 use Prim.Native.Nat.{ℕ, zero, suc, _+_, _≤_, _<_}
 use native.Mathlib.Numerals.{add-one}
 use native.Mathlib.Omega.{arith}
-use borrow.Author.Tests.{le-leb, lt-leb, lt-ltb, le-ltb, ne-eqb, leb-true, leb-false, eqb-true}
-use lib.Dec.{eqb, leb, ltb}
+use borrow.Author.Tests.{le-leb, lt-leb, ne-eqb, leb-true, not-true}
+use lib.Dec.{eqb, leb}
 use lib.ListN.{length, take, drop, getD, drop-of-length-le}
 use lib.Seq.{drop-cons}
 use Rattle.basis.specs.Basis.{pick}
-use Rattle.basis.proofs.All.{all, all-at}
-use Rattle.cbor_strings.specs.Strings.{isPrintable}
-use Rattle.cbor_strings.specs.Inner.{afterDot, isOutside, nextSeen, seenBy, seenOf}
-
-pub outside-is : (c : ℕ) → eqb c 37 || (ltb c 33 || ltb 126 c) ≡ isOutside c
-unfolding isOutside isPrintable
-outside-is c = ap (λ (b : Bool). eqb c 37 || b) (by (leb 33 c) refl (leb c 126) refl)
-  where
-    by : (x : Bool) → leb 33 c ≡ x → (y : Bool) → leb c 126 ≡ y → ltb c 33 || ltb 126 c ≡ not (x && y)
-    by true p true q = rw (le-ltb c 33 (leb-true 33 c p), le-ltb 126 c (leb-true c 126 q))
-    by true p false q = rw (le-ltb c 33 (leb-true 33 c p), lt-ltb 126 c (leb-false c 126 q))
-    by false p y q = rw (lt-ltb c 33 (leb-false 33 c p))
+use Rattle.cbor_strings.specs.Paths.{slash}
+use Rattle.cbor_strings.specs.Strings.{within, isPrintable, allOf}
+use Rattle.cbor_strings.specs.Inner.{afterDot, isOutside, nextSeen, seenBy, seenBehind, nearBy, farBy}
 
 -- one byte
 module _ (seen c : ℕ) where
@@ -34,13 +25,17 @@ module _ (seen c : ℕ) where
   unfolding nextSeen isOutside isPrintable
   past-printable b = rw (ne-eqb c 37 (λ e. omega arith), le-leb 33 c (omega arith), lt-leb c 126 (omega arith))
 
-  pub is-outside : true ≡ isOutside c → 4 ≡ nextSeen seen c
-  unfolding nextSeen
-  is-outside e = rw (← e)
+  pub below-printable : c < 33 → 4 ≡ nextSeen seen c
+  unfolding nextSeen isOutside isPrintable
+  below-printable h = rw (ne-eqb c 37 (λ e. omega arith), lt-leb 33 c h)
 
-  pub is-other : (c ≡ 47 → ⊥) → (c ≡ 46 → ⊥) → false ≡ isOutside c → 0 ≡ nextSeen seen c
-  unfolding nextSeen
-  is-other a b e = rw (← e, ne-eqb c 47 a, ne-eqb c 46 b)
+  pub is-percent : c ≡ 37 → 4 ≡ nextSeen seen c
+  unfolding nextSeen isOutside
+  is-percent e = rw e
+
+  pub is-other : (c ≡ 47 → ⊥) → (c ≡ 46 → ⊥) → (c ≡ 37 → ⊥) → 33 ≤ c → c < 127 → 0 ≡ nextSeen seen c
+  unfolding nextSeen isOutside isPrintable
+  is-other a b d g h = rw (ne-eqb c 37 d, ne-eqb c 46 b, ne-eqb c 47 a, le-leb 33 c g, le-leb c 126 (omega arith))
 
   module _ (e : c ≡ 47) where
     pub opens : seen ≡ 0 → 1 ≡ nextSeen seen c
@@ -105,84 +100,71 @@ pub seeing-all : (s : List ℕ) (seen so-far i : ℕ) → Seeing s seen so-far i
 unfolding seenBy
 seeing-all s seen so-far i w h = rw (drop-of-length-le s h) at (w .rest)
 
--- marks in the place of the number
-pub record Marked (s : List ℕ) (seen : ℕ) (bad empty one two : Bool) (i : ℕ) : Type 0 where
-  pub inside : i ≤ length s
-  pub rest : seenBy (seenOf bad empty one two) (drop i s) ≡ seenBy seen s
+-- neither of two tests
+pub neither : (a b : Bool) → a || b ≡ false → (a ≡ false) × (b ≡ false)
+neither true b e = absurd (true≢false e)
+neither false b e = (refl, e)
 
-pub marked-none : (s : List ℕ) (seen : ℕ) → seen ≤ 4 → Marked s seen (eqb seen 4) (eqb seen 1) (eqb seen 2) (eqb seen 3) 0
-unfolding all
-marked-none s seen h =
-    let same : ℕ → Bool = λ k. eqb (seenOf (eqb k 4) (eqb k 1) (eqb k 2) (eqb k 3)) k in
-    record { inside = omega arith; rest = ap (λ (k : ℕ). seenBy k s) (eqb-true _ _ (all-at 5 same refl seen (omega arith))) }
+-- many at a time: whether a "." or a "/" was behind a "/" among the first i
+pub record Nearing (before s : List ℕ) (near : Bool) (i : ℕ) : Type 0 where
+  pub rest : near || nearBy (drop i before) (drop i s) ≡ nearBy before s
 
--- one byte, by its three tests
-marks-table : (b e d dd o sl po : Bool) (t : List ℕ)
-    → seenBy (seenOf (b || (o || (sl && (e || (d || dd))))) sl (po && e) (po && d)) t
-    ≡ pick (eqb (seenOf b e d dd) 4) 4 (seenBy (pick o 4 (pick sl (pick (eqb (seenOf b e d dd) 0) 1 4) (pick po (afterDot (seenOf b e d dd)) 0))) t)
-marks-table true e d dd o sl po t = seen-refused t
-marks-table false true d dd true sl po t = refl
-marks-table false true d dd false true po t = refl
-marks-table false true d dd false false true t = refl
-marks-table false true d dd false false false t = refl
-marks-table false false true dd true sl po t = refl
-marks-table false false true dd false true po t = refl
-marks-table false false true dd false false true t = refl
-marks-table false false true dd false false false t = refl
-marks-table false false false true true sl po t = refl
-marks-table false false false true false true po t = refl
-marks-table false false false true false false true t = refl
-marks-table false false false true false false false t = refl
-marks-table false false false false true sl po t = refl
-marks-table false false false false false true po t = refl
-marks-table false false false false false false true t = refl
-marks-table false false false false false false false t = refl
+or-assoc : (p q r : Bool) → (p || q) || r ≡ p || (q || r)
+or-assoc true q r = refl
+or-assoc false q r = refl
 
-module _ (s : List ℕ) (seen : ℕ) (b e d dd : Bool) (i : ℕ) (w : Marked s seen b e d dd i) (h : i < length s) where
-  pub marked-one : {b′ d′ dd′ : Bool} → b′ ≡ b || (isOutside (getD s i 0) || (eqb (getD s i 0) 47 && (e || (d || dd)))) → d′ ≡ eqb (getD s i 0) 46 && e
-      → dd′ ≡ eqb (getD s i 0) 46 && d → Marked s seen b′ (eqb (getD s i 0) 47) d′ dd′ (i + 1)
-  unfolding seenBy nextSeen
-  marked-one p q r =
-      let c = getD s i 0 in
-      record {
-        inside = omega arith;
-        rest = rw (p, q, r) (marks-table b e d dd (isOutside c) (eqb c 47) (eqb c 46) (drop (i + 1) s) ∙ sym (ap (seenBy (seenOf b e d dd)) (front s i h)) ∙ w .rest);
-      }
+pub nearing-none : (before s : List ℕ) → Nearing before s false 0
+nearing-none before s = record { rest = refl }
 
-pub marked-all : (s : List ℕ) (seen : ℕ) (b e d dd : Bool) (i : ℕ) → Marked s seen b e d dd i → length s ≤ i → seenOf b e d dd ≡ seenBy seen s
-unfolding seenBy
-marked-all s seen b e d dd i w h = rw (drop-of-length-le s h) at (w .rest)
+module _ (before s : List ℕ) (near : Bool) (i : ℕ) (w : Nearing before s near i) where
+  pub nearing-one : (next : Bool) → i < length before → i < length s
+      → next ≡ near || (eqb (getD before i 0) slash && (eqb (getD s i 0) 46 || eqb (getD s i 0) slash)) → Nearing before s next (i + 1)
+  unfolding nearBy
+  nearing-one next g h e = record {
+    rest = rw e (or-assoc near _ _ ∙ (rw (front before i g, front s i h) at (w .rest)));
+  }
 
--- in blocks: what is seen of a front and then of the rest
-pub seen-joined : (n seen : ℕ) (t : List ℕ) → seenBy (seenBy seen (take n t)) (drop n t) ≡ seenBy seen t
-unfolding seenBy
-seen-joined zero seen t = refl
-seen-joined (suc n) seen [] = refl
-seen-joined (suc n) seen (c ∷ t) = by (eqb seen 4) (seen-joined n (nextSeen seen c) t)
+  pub nearing-all : length s ≤ i → near ≡ nearBy before s
+  unfolding nearBy
+  nearing-all h = sym (or-false near) ∙ ap (λ (b : Bool). near || b) (sym (none (drop i before))) ∙ ap (λ (r : List ℕ). near || nearBy (drop i before) r) (sym (drop-of-length-le s h)) ∙ w .rest
+    where
+      none : (p : List ℕ) → nearBy p [] ≡ false
+      none [] = refl
+      none (a ∷ p) = refl
+
+-- behind a byte near which nothing is, as much is seen as this byte says
+far-one : (a c : ℕ) → eqb a slash && (eqb c 46 || eqb c slash) ≡ false → within 0x2d 0x7e c ≡ true → nextSeen (seenBehind a) c ≡ seenBehind c
+unfolding nextSeen isOutside isPrintable
+far-one a c n r = by (leb 45 c) refl (leb c 126) refl r (eqb a slash) (eqb c slash) refl (eqb c 46) refl n
   where
-    by : (u : Bool) → seenBy (seenBy (nextSeen seen c) (take n t)) (drop n t) ≡ seenBy (nextSeen seen c) t
-        → seenBy (pick u 4 (seenBy (nextSeen seen c) (take n t))) (drop n t) ≡ pick u 4 (seenBy (nextSeen seen c) t)
-    by true m = seen-refused (drop n t)
-    by false m = m
+    by : (x : Bool) → leb 45 c ≡ x → (y : Bool) → leb c 126 ≡ y → x && y ≡ true → (u : Bool) (v : Bool) → eqb c slash ≡ v → (w : Bool) → eqb c 46 ≡ w → u && (w || v) ≡ false
+        → pick (eqb c 37 || not (leb 33 c && leb c 126)) 4 (pick (eqb c slash) (pick (eqb (pick u 1 0) 0) 1 4) (pick (eqb c 46) (afterDot (pick u 1 0)) 0)) ≡ pick (eqb c slash) 1 0
+    by false p y q r u v e w f n = absurd (false≢true r)
+    by true p false q r u v e w f n = absurd (false≢true r)
+    by true p true q r true true e w f n = absurd (true≢false (sym (or-true w) ∙ n))
+    by true p true q r true false e true f n = absurd (true≢false n)
+    by true p true q r true false e false f n = rw (ne-eqb c 37 (λ e. omega (arith, leb-true 45 c p)), le-leb 33 c (omega (arith, leb-true 45 c p)), q, e, f)
+    by true p true q r false true e w f n = rw (ne-eqb c 37 (λ e. omega (arith, leb-true 45 c p)), le-leb 33 c (omega (arith, leb-true 45 c p)), q, e)
+    by true p true q r false false e true f n = rw (ne-eqb c 37 (λ e. omega (arith, leb-true 45 c p)), le-leb 33 c (omega (arith, leb-true 45 c p)), q, e, f)
+    by true p true q r false false e false f n = rw (ne-eqb c 37 (λ e. omega (arith, leb-true 45 c p)), le-leb 33 c (omega (arith, leb-true 45 c p)), q, e, f)
 
-seen-least : (seen c : ℕ) → nextSeen seen c ≤ 4
-unfolding nextSeen
-seen-least seen c = by (isOutside c) (eqb c 47) (eqb seen 0) (eqb c 46) (eqb seen 1) (eqb seen 2)
+behind-goes-on : (a : ℕ) → seenBehind a ≡ 4 → ⊥
+behind-goes-on a = by (eqb a slash)
   where
-    by : (o sl k po l m : Bool) → pick o 4 (pick sl (pick k 1 4) (pick po (pick l 2 (pick m 3 0)) 0)) ≤ 4
-    by true sl k po l m = omega arith
-    by false true true po l m = omega arith
-    by false true false po l m = omega arith
-    by false false k true true m = omega arith
-    by false false k true false true = omega arith
-    by false false k true false false = omega arith
-    by false false k false l m = omega arith
+    by : (u : Bool) → _≡_ {A = ℕ} (pick u 1 0) 4 → ⊥
+    by true e = omega arith
+    by false e = omega arith
 
-pub seen-range : (seen : ℕ) (t : List ℕ) → seen ≤ 4 → seenBy seen t ≤ 4
-unfolding seenBy
-seen-range seen [] h = h
-seen-range seen (c ∷ t) h = by (eqb seen 4) (seen-range (nextSeen seen c) t (seen-least seen c))
-  where
-    by : (u : Bool) → seenBy (nextSeen seen c) t ≤ 4 → pick u 4 (seenBy (nextSeen seen c) t) ≤ 4
-    by true m = omega arith
-    by false m = m
+-- so a front where nothing is near need not be walked
+pub far-skips : (n a : ℕ) (t : List ℕ) → n ≤ length t → farBy (take n (a ∷ t)) (take n t) ≡ true
+    → seenBy (seenBehind (getD (a ∷ t) n 0)) (drop n t) ≡ seenBy (seenBehind a) t
+unfolding nearBy allOf
+far-skips zero a t h f = refl
+far-skips (suc n) a [] h f = let z : ⊥ = omega arith in elim z [ ]
+far-skips (suc n) a (c ∷ t) h f =
+    let here = eqb a slash && (eqb c 46 || eqb c slash) in
+    let x = and-eq-true-iff (not (here || nearBy (take n (c ∷ t)) (take n t))) (within 0x2d 0x7e c && allOf (within 0x2d 0x7e) (take n t)) .0 f in
+    let y = and-eq-true-iff (within 0x2d 0x7e c) (allOf (within 0x2d 0x7e) (take n t)) .0 (x .1) in
+    let z = neither here (nearBy (take n (c ∷ t)) (take n t)) (not-true _ (x .0)) in
+    far-skips n c t (omega arith) (rw (z .1, y .1))
+    ∙ sym (seen-one (seenBehind a) c t (behind-goes-on a) ∙ ap (λ (k : ℕ). seenBy k t) (far-one a c (z .0) (y .0)))

@@ -1,11 +1,11 @@
 -- Inner. How the code judges content: the classes as runs of disjoint kinds, and a path a byte after the other.
-use mathlib.Core.Bool.{Bool, not, _&&_, _||_}
+use mathlib.Core.Bool.{Bool, false, not, _&&_, _||_}
 use mathlib.Core.List.{List, [], _∷_}
 use Prim.Native.Nat.{ℕ}
 use lib.Dec.{eqb, leb}
 use Rattle.basis.specs.Basis.{pick}
 use Rattle.cbor_strings.specs.Paths.{slash, percent}
-use Rattle.cbor_strings.specs.Strings.{isHex, isName, isPrintable, isUpper}
+use Rattle.cbor_strings.specs.Strings.{isHex, isName, isPrintable, isUpper, allOf, within}
 
 -- the kinds of characters, disjoint: each class is a run of them
 unfoldable pub kindOf : ℕ → ℕ
@@ -44,6 +44,16 @@ unfoldable pub seenBy : ℕ → List ℕ → ℕ
 seenBy seen [] = seen
 seenBy seen (c ∷ t) = pick (eqb seen refused) refused (seenBy (nextSeen seen c) t)
 
--- the same as marks, of which the first that is set counts
-abbrev pub seenOf : Bool → Bool → Bool → Bool → ℕ
-seenOf bad empty one two = pick bad refused (pick empty nothing (pick one dot (pick two dots anything)))
+-- behind a byte where nothing is near
+abbrev pub seenBehind : ℕ → ℕ
+seenBehind c = pick (eqb c slash) nothing anything
+
+-- a "." or a "/" behind a "/"; the first list has the byte before each of the second
+unfoldable pub nearBy : List ℕ → List ℕ → Bool
+nearBy [] t = false
+nearBy (a ∷ p) [] = false
+nearBy (a ∷ p) (c ∷ t) = (eqb a slash && (eqb c 46 || eqb c slash)) || nearBy p t
+
+-- and none below "-", where "%" is, or past "~"
+abbrev pub farBy : List ℕ → List ℕ → Bool
+farBy before s = not (nearBy before s) && allOf (within 0x2d 0x7e) s

@@ -8,8 +8,9 @@ use cbor_heads::major;
 ghost use mathlib.Core.Path.{_≡_};
 ghost use mathlib.Core.Bool.{_&&_, _||_};
 ghost use Prim.Native.Nat.{_≤_, _<_, min, max};
+ghost use lib.ListN.{length};
 ghost use Rattle.cbor_strings.specs.Strings.{within, allOf, contentOf};
-ghost use Rattle.cbor_strings.specs.Inner.{kindOf, kindsFrom, isOutside, nextSeen, seenBy, seenOf};
+ghost use Rattle.cbor_strings.specs.Inner.{kindOf, kindsFrom, farBy, seenBehind, nextSeen, seenBy};
 ghost use Rattle.cbor_strings.specs.declared.Class.the-variants.{Path};
 ghost use Rattle.cbor_strings.specs.Reading.{readRun, readString};
 
@@ -166,30 +167,45 @@ fn both(a: bool, b: bool) -> bool
     if a { b } else { false }
 }
 
-// The marks as a number, the first that is set.
-fn seen_of(bad: bool, empty: bool, dot: bool, dots: bool) -> u8
-    ensures { λ r. ⌜ r ≡ seenOf bad empty dot dots ⌝ }
+// Whether nothing is near that a path must not have: all lies from "-" to "~", "%" before that, and neither "." nor
+// "/" behind a "/"; `before` has the byte before each. The loop has one way out, so that the compiler takes many
+// characters at a time.
+fn far(before: &[u8], s: &[u8]) -> bool
+    requires { ⌜ length (now s) ≤ length (now before) ⌝ }
+    ensures { λ r. ⌜ r ≡ farBy (now (before .entry)) (now (s .entry)) ⌝ }
 {
-    if bad {
-        return seen::REFUSED;
+    let mut near = false;
+    let mut first: u8 = 255;
+    let mut last: u8 = 0;
+    let mut i: usize = 0;
+    while i < s.len() {
+        let c = s[i];
+        first = lower(c, first);
+        last = higher(c, last);
+        near = either(near, both(before[i] == b'/', either(c == b'.', c == b'/')));
+        i += 1;
     }
-    if empty {
-        return seen::NOTHING;
+    if near {
+        return false;
     }
-    if dot {
-        return seen::DOT;
+    if first < b'-' {
+        return false;
     }
-    if dots { seen::DOTS } else { seen::ANYTHING }
+    last <= 0x7e
 }
 
-// Whether no path may hold this byte, wherever it stands.
-fn outside(c: u8) -> bool
-    ensures { λ r. ⌜ r ≡ isOutside c ⌝ }
+// What is seen of the open segment of a path behind its first byte, or behind a byte where nothing is near.
+fn seen_behind(c: u8) -> u8
+    ensures { λ r. ⌜ r ≡ seenBehind c ⌝ }
 {
-    either(c == b'%', either(c < 0x21, 0x7e < c))
+    if c == b'/' {
+        seen::NOTHING
+    } else {
+        seen::ANYTHING
+    }
 }
 
-// What is seen of the open segment of a path behind one more byte. Letters are asked for first: they are most of a path.
+// What is seen of it behind one more byte. Letters are asked for first: they are most of a path.
 fn next_seen(seen: u8, c: u8) -> u8
     ensures { λ r. ⌜ r ≡ nextSeen seen c ⌝ }
 {
@@ -214,13 +230,16 @@ fn next_seen(seen: u8, c: u8) -> u8
         }
         return seen::ANYTHING;
     }
-    if outside(c) {
+    if c < 0x21 {
+        return seen::REFUSED;
+    }
+    if c == b'%' {
         return seen::REFUSED;
     }
     seen::ANYTHING
 }
 
-// What is seen of the open segment of a path behind so many more bytes, one after the other.
+// What is seen of it behind so many more bytes, one after the other.
 fn walk(s: &[u8], seen: u8) -> u8
     ensures { λ r. ⌜ r ≡ seenBy seen (now (s .entry)) ⌝ }
 {
@@ -239,34 +258,7 @@ fn walk(s: &[u8], seen: u8) -> u8
     so_far
 }
 
-// The same with no way out of the loop and a mark for each thing that the segment may be, so that the compiler
-// takes many bytes at a time.
-fn walk_block(s: &[u8], seen: u8) -> u8
-    requires { ⌜ seen ≤ 4 ⌝ }
-    ensures { λ r. ⌜ r ≡ seenBy seen (now (s .entry)) ⌝ }
-{
-    let mut bad = seen == seen::REFUSED;
-    let mut empty = seen == seen::NOTHING;
-    let mut dot = seen == seen::DOT;
-    let mut dots = seen == seen::DOTS;
-    let mut i: usize = 0;
-    while i < s.len() {
-        let c = s[i];
-        let slash = c == b'/';
-        let point = c == b'.';
-        bad = either(
-            bad,
-            either(outside(c), both(slash, either(empty, either(dot, dots)))),
-        );
-        dots = both(point, dot);
-        dot = both(point, empty);
-        empty = slash;
-        i += 1;
-    }
-    seen_of(bad, empty, dot, dots)
-}
-
-// Whether a path's content is good. Each byte is read once, left to right.
+// Whether a path's content is good. Its front, where nothing is near, is read many bytes at a time and not again.
 fn path_is(s: &[u8]) -> bool
     ensures { λ r. ⌜ r ≡ contentOf Path (now (s .entry)) ⌝ }
 {
@@ -276,13 +268,12 @@ fn path_is(s: &[u8]) -> bool
     if s[0] != b'/' {
         return false;
     }
-    let mut seen = seen::NOTHING;
-    let mut i: usize = 1;
-    while 32 <= s.len() - i {
-        seen = walk_block(&s[i..i + 32], seen);
-        i += 32;
+    let front = (s.len() - 1) / 16 * 16;
+    let mut read: usize = 0;
+    if far(&s[..front], &s[1..front + 1]) {
+        read = front;
     }
-    walk(&s[i..], seen) < seen::DOT
+    walk(&s[read + 1..], seen_behind(s[read])) < seen::DOT
 }
 
 pub fn content_is(s: &[u8], class: Class) -> bool

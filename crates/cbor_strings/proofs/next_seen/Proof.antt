@@ -1,11 +1,9 @@
-use mathlib.Core.Path.{sym, _∙_}
-use borrow.Author.Needs.{needs}
-use Rattle.cbor_strings.proofs.PathWalks.{letter, past-printable, is-outside, is-other, opens, slash-refused, first-dot, second-dot, other-dot}
+use native.Mathlib.Omega.{arith}
+use Rattle.cbor_strings.proofs.PathWalks.{letter, past-printable, below-printable, is-percent, is-other, opens, slash-refused, first-dot, second-dot, other-dot}
 use Rattle.cbor_strings.proofs.next_seen.Statement.{statement}
 use Rattle.cbor_strings.proofs.next_seen.Tie as tie
 use Rattle.cbor_strings.proofs.next_seen.Reads as reads
 use Rattle.cbor_strings.proofs.next_seen.Lts as lts
-use Rattle.cbor_strings.proofs.outside.Reads as outside-reads
 
 returns : tie.Need-returns
 returns c = letter _ _ (c .before .if1 .taken) (c .if2 .taken)
@@ -28,14 +26,14 @@ returns-6 c = second-dot _ _ (c .before .before .if5 .taken) (c .if7 .taken)
 returns-7 : tie.Need-returns-7
 returns-7 c = other-dot _ _ (c .before .before .if5 .taken) (c .before .if6 .left) (c .if7 .left)
 
-outside-requires : tie.Need-outside-requires
-outside-requires c κs = search needs
-
 returns-8 : tie.Need-returns-8
-returns-8 c = is-outside _ _ (sym (c .if8 .taken) ∙ c .before .outside .ensures)
+returns-8 c = below-printable _ _ (c .if8 .taken)
 
 returns-9 : tie.Need-returns-9
-returns-9 c = is-other _ _ (c .before .before .before .if3 .left) (c .before .before .if5 .left) (sym (c .if8 .left) ∙ c .before .outside .ensures)
+returns-9 c = is-percent _ _ (c .if9 .taken)
+
+returns-10 : tie.Need-returns-10
+returns-10 c = is-other _ _ (c .before .before .before .if3 .left) (c .before .before .if5 .left) (c .if9 .left) (c .before .if8 .left) (omega (arith, c .before .before .before .before .if1 .left))
 
 pub next-seen-spec : {M : Type 1} → statement M
 next-seen-spec =
@@ -48,6 +46,6 @@ next-seen-spec =
     returns-5
     returns-6
     returns-7
-    outside-requires
     returns-8
-    returns-9)
+    returns-9
+    returns-10)

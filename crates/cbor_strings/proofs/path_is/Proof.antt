@@ -1,96 +1,103 @@
-use Prim.Native.Nat.{_-_}
+use mathlib.Core.Path.{sym, _∙_}
+use mathlib.Core.Logic.{⊎-elim}
 use native.Mathlib.Omega.{arith}
-use lib.ListN.{length}
+use lib.Seq.{length-take-le}
 use borrow.Author.Needs.{needs}
-use Rattle.cbor_strings.proofs.PathJudged.{Read, no-path, no-slash, read-first, read-block, read-all}
+use Rattle.cbor_strings.proofs.PathJudged.{Read, no-path, no-slash, read-first, read-front, read-as, front-inside, one-before-each, read-all}
 use Rattle.cbor_strings.proofs.path_is.Statement.{statement}
 use Rattle.cbor_strings.proofs.path_is.Tie as tie
 use Rattle.cbor_strings.proofs.path_is.Reads as reads
 use Rattle.cbor_strings.proofs.path_is.Lts as lts
+use Rattle.cbor_strings.proofs.far.Reads as far-reads
+use Rattle.cbor_strings.proofs.seen_behind.Reads as seen-behind-reads
 use Rattle.cbor_strings.proofs.walk.Reads as walk-reads
-use Rattle.cbor_strings.proofs.walk_block.Reads as walk-block-reads
 
-abbrev Inv-loop : tie.InvT-loop
-Inv-loop s seen₀ i₀ seen i = Read s seen i
+-- what is read when the walk begins
+read : (c : tie.Joined3) → Read (c .before .before .before .before .before .before .before .before .args .s .now) (c .if3 .read)
+read c =
+    let h = c .before .before .before .before .before .before .if1 .left in
+    let e = c .before .before .before .before .if2 .left in
+    ⊎-elim (λ w. read-as (w .1) (read-front _ _ (front-inside _ h) e (sym (c .before .far .ensures) ∙ w .0 .taken))) (λ w. read-as (w .1) (read-first _ h e)) (c .if3 .came)
 
-abbrev μ-loop : tie.MeasureT-loop
-μ-loop s seen₀ i₀ seen i = length s - i
-
-returns : tie.Need-returns Inv-loop μ-loop
+returns : tie.Need-returns
 returns c = no-path _ (c .if1 .taken)
 
-shared-slice-read-if2 : tie.Need-shared-slice-read-if2 Inv-loop μ-loop
+shared-slice-read-if2 : tie.Need-shared-slice-read-if2
 shared-slice-read-if2 c = search needs
 
-returns-2 : tie.Need-returns-2 Inv-loop μ-loop
+returns-2 : tie.Need-returns-2
 returns-2 c = no-slash _ (c .if2 .taken)
 
-loop-holds : tie.Need-loop-holds Inv-loop μ-loop
-loop-holds c = read-first _ (c .before .before .if1 .left)
+sub-front : tie.Need-sub-front
+sub-front c = search needs
 
-sub-loop : tie.Need-sub-loop Inv-loop μ-loop
-sub-loop c = c .loop .inv .inside
+mul-front : tie.Need-mul-front
+mul-front c = search needs
 
-add-walk-block : tie.Need-add-walk-block Inv-loop μ-loop
-add-walk-block c = let l = c .before .loop .inv .inside in search needs
+slice-aggregate-far : tie.Need-slice-aggregate-far
+slice-aggregate-far c = sym (length-take-le _ _ (omega (arith, c .before .before .before .if1 .left)))
 
-sub-walk-block : tie.Need-sub-walk-block Inv-loop μ-loop
-sub-walk-block c = omega arith
+add-far : tie.Need-add-far
+add-far c = search needs
 
-part-walk-block-start : tie.Need-part-walk-block-start Inv-loop μ-loop
-part-walk-block-start c = omega arith
+sub-far : tie.Need-sub-far
+sub-far c = search needs
 
-part-walk-block-end : tie.Need-part-walk-block-end Inv-loop μ-loop
-part-walk-block-end c = omega (arith, c .before .loop .inv .inside, c .loop-test .taken)
+part-far-start : tie.Need-part-far-start
+part-far-start c = search needs
 
-walk-block-requires : tie.Need-walk-block-requires Inv-loop μ-loop
-walk-block-requires c κs = c .before .before .loop .inv .known
+part-far-end : tie.Need-part-far-end
+part-far-end c = search needs
 
-add-i : tie.Need-add-i Inv-loop μ-loop
-add-i c = let l = c .before .before .before .loop .inv .inside in search needs
+far-requires : tie.Need-far-requires
+far-requires c κs = one-before-each _ _ (front-inside _ (c .before .before .before .before .if1 .left))
 
-loop-less : tie.Need-loop-less Inv-loop μ-loop
-loop-less c = let l = c .before .before .before .loop .inv .inside in omega (arith, c .before .before .loop-test .taken)
+add-walk : tie.Need-add-walk
+add-walk c = let r = read (c .before) .inside in search needs
 
-loop-again : tie.Need-loop-again Inv-loop μ-loop
-loop-again c = let l = c .before .before .before .loop .inv in read-block _ _ _ l _ 32 (omega (arith, l .inside, c .before .before .loop-test .taken)) (c .walk-block .ensures)
+sub-walk : tie.Need-sub-walk
+sub-walk c = let r = read (c .before) .inside in omega arith
 
-sub-walk : tie.Need-sub-walk Inv-loop μ-loop
-sub-walk c = c .before .loop .inv .inside
+part-walk-start : tie.Need-part-walk-start
+part-walk-start c = let r = read (c .before) .inside in omega arith
 
-part-walk-start : tie.Need-part-walk-start Inv-loop μ-loop
-part-walk-start c = c .before .loop .inv .inside
+part-walk-end : tie.Need-part-walk-end
+part-walk-end c = search needs
 
-part-walk-end : tie.Need-part-walk-end Inv-loop μ-loop
-part-walk-end c = omega arith
+shared-slice-read-seen-behind : tie.Need-shared-slice-read-seen-behind
+shared-slice-read-seen-behind c = read (c .before .before .before) .inside
 
-walk-requires : tie.Need-walk-requires Inv-loop μ-loop
+seen-behind-requires : tie.Need-seen-behind-requires
+seen-behind-requires c κs = search needs
+
+walk-requires : tie.Need-walk-requires
 walk-requires c κs = search needs
 
-returns-3 : tie.Need-returns-3 Inv-loop μ-loop
-returns-3 c = let before = c .before .before .before .before .before .before in read-all _ _ _ (c .before .before .before .loop .inv) (before .if1 .left) (c .before .before .before .before .if2 .left) _ (c .walk .ensures)
+returns-3 : tie.Need-returns-3
+returns-3 c =
+    let walked = c .before .before .before .before .before in
+    read-all _ _ (read walked) (walked .before .before .before .before .if2 .left) _ _ (c .before .seen-behind .ensures) (c .walk .ensures)
 
 pub path-is-spec : {M : Type 1} → statement M
 path-is-spec =
     tie.close
     (tie.spec
-    Inv-loop
-    μ-loop
     returns
     shared-slice-read-if2
     returns-2
-    loop-holds
-    sub-loop
-    add-walk-block
-    sub-walk-block
-    part-walk-block-start
-    part-walk-block-end
-    walk-block-requires
-    add-i
-    loop-less
-    loop-again
+    sub-front
+    mul-front
+    slice-aggregate-far
+    add-far
+    sub-far
+    part-far-start
+    part-far-end
+    far-requires
+    add-walk
     sub-walk
     part-walk-start
     part-walk-end
+    shared-slice-read-seen-behind
+    seen-behind-requires
     walk-requires
     returns-3)
