@@ -132,9 +132,13 @@ static inline const char *bhinorpa_name(uint32_t answer)
  *   then    4      per_s of the rate, any number                                    BHINORPA_FLAG_RATE
  *   then    4      burst of the rate, any number                                    BHINORPA_FLAG_RATE
  *   then    2 + n  n, 1 to 16, and the method: letters A to Z
- *   then    2 + n  n, 1 to 1,024, and the path: bytes 0x21 to 0x7e, the first "/"
+ *   then    2 + n  n, 1 to 1,024, and the path: bytes 0x21 to 0x7e, the first "/" (see below)
  *   then    2 + n  n, 1 to 64, and the tenant: an id
  *   then    2 + n  n, 1 to 128, and the audience: bytes 0x21 to 0x7e                BHINORPA_FLAG_AUDIENCE
+ *
+ * A path has no "%", no "//" and no segment "." or "..", which proxies would rewrite: one that has is
+ * BHINORPA_CTX_BAD here, and as a prefix BHINORPA_PARSE_CBOR in a token or a scope and BHINORPA_CAV_CBOR in
+ * narrow's caveat. /.a, /... and /a/ are fine. Hand over the path as it came, and mend nothing in it.
  *
  * Nothing follows. BHINORPA_FLAG_AMNESIA says that the host is in amnesia mode, and has no bytes of its own.
  * A caveat that asks for a part that is not there does not hold. Anything else than the above is
@@ -223,7 +227,8 @@ struct bhinorpa_written {
  *   table    the key table, as for bhinorpa_verify.
  *   tid, kid the ids under which the table has the key that tags the token; they go into the token.
  *   scope    the bytes of one scope in deterministic CBOR: a map of prefix (may be absent), methods and
- *            max_bytes (may be absent), in that order, and nothing behind it.
+ *            max_bytes (may be absent), in that order, and nothing behind it. The prefix is a path as a
+ *            request has it, of 1 to 256 bytes.
  *   room     where the text goes: Base64URL, without an ending zero or newline. 1,003 bytes are enough for
  *            every fresh token (BHINORPA_FRESH_TEXT_MAX), 5,462 for every text of this library
  *            (BHINORPA_TEXT_MAX); a room that is exactly as long as the text is enough, and one that is

@@ -8,15 +8,15 @@ use native.Mathlib.Numerals.{add-one}
 use native.Mathlib.Omega.{arith}
 use borrow.Author.Tests.{eqb-true, eq-eqb, ne-eqb}
 use lib.Dec.{eqb, ltb}
-use lib.ListN.{length, take, drop, getD, length-drop}
-use lib.Seq.{take-all, length-take-le}
+use lib.ListN.{length, take, drop, getD, length-drop, drop-of-length-le}
+use lib.Seq.{drop-cons, drop-drop, getD-drop, take-all, length-take-le}
 use Rattle.basis.specs.Basis.{pick, ascii}
 use Rattle.basis.specs.Same.{sameOf}
 use Rattle.cbor_strings.specs.Paths.{slash, starts, has, upTo, segments, among, isRewritten}
 use Rattle.cbor_strings.specs.Strings.{isPrintable, allOf, contentOf}
 use Rattle.cbor_strings.specs.Inner.{isOutside, nextSeen, seenBy, seenBehind, farBy}
 use Rattle.cbor_strings.specs.declared.Class.the-variants.{Path}
-use Rattle.cbor_strings.proofs.PathWalks.{seen-refused, seen-one, far-skips}
+use Rattle.cbor_strings.proofs.PathWalks.{seen-refused, seen-one, far-skips, behind-stands}
 
 -- a text of which nothing is refused, whatever stands before it
 abbrev free : List ℕ → Bool
@@ -160,36 +160,49 @@ pub no-path : (s : List ℕ) → length s ≡ 0 → false ≡ contentOf Path s
 no-path [] h = no-slash [] (λ e. omega arith)
 no-path (c ∷ t) h = let z : ⊥ = omega arith in elim z [ ]
 
--- the rest of a path behind so many bytes, which are the first alone or a front where nothing is near
-pub record Read (s : List ℕ) (i : ℕ) : Type 0 where
-  pub inside : i < length s
-  pub rest : seenBy (seenBehind (getD s i 0)) (drop (i + 1) s) ≡ seenBy 1 (drop 1 s)
+-- a path of more than sixteen bytes, by two stretches of it where nothing is near
+module _ (s : List ℕ) (h : 16 < length s) where
+  abbrev pub front : ℕ
+  front = (length s - 1) / 16 * 16
 
-pub read-first : (s : List ℕ) → (length s ≡ 0 → ⊥) → getD s 0 0 ≡ slash → Read s 0
-read-first s h e = record { inside = omega (arith, h); rest = rw e }
+  abbrev pub last : ℕ
+  last = length s - 17
 
-pub read-front : (s : List ℕ) (n : ℕ) → n < length s → getD s 0 0 ≡ slash → farBy (take n s) (take (n + 1 - 1) (drop 1 s)) ≡ true → Read s n
-read-front [] n h e f = let z : ⊥ = omega arith in elim z [ ]
-read-front (a ∷ t) n h e f =
-    let z : n + 1 - 1 ≡ n = omega arith in
-    let skipped = far-skips n a t (omega arith) (rw z at f) in
-    record { inside = h; rest = rw add-one (skipped ∙ ap (λ (x : ℕ). seenBy (seenBehind x) t) e) }
+  pub front-inside : front < length s
+  front-inside = omega arith
 
-pub read-as : {s : List ℕ} {i j : ℕ} → i ≡ j → Read s j → Read s i
-read-as e w = rw e w
+  pub one-before-each : (n : ℕ) → n < length s → length (take (n + 1 - 1) (drop 1 s)) ≤ length (take n s)
+  one-before-each n g =
+      let a : length (take (n + 1 - 1) (drop 1 s)) ≡ n + 1 - 1 = length-take-le (n + 1 - 1) (drop 1 s) (simp length-drop (omega arith)) in
+      let b : length (take n s) ≡ n = length-take-le n s (omega arith) in
+      omega (arith, a, b)
 
--- whole stretches of sixteen behind the first byte
-pub front-inside : (n : ℕ) → (n ≡ 0 → ⊥) → (n - 1) / 16 * 16 < n
-front-inside n h = omega (arith, h)
+  -- what a stretch leaves to be seen, from the byte before it on
+  skipped : (m n from : ℕ) → m ≤ n → from + n < length s → farBy (take n (drop from s)) (take n (drop (from + 1) s)) ≡ true
+      → seenBy (seenBehind (getD s (from + m) 0)) (drop (from + m + 1) s) ≡ seenBy (seenBehind (getD s from 0)) (drop (from + 1) s)
+  skipped m n from l g f =
+      let e : drop from s ≡ getD s from 0 ∷ drop (from + 1) s = rw (drop-cons s from 0 (omega arith), add-one) in
+      let k = far-skips m n (getD s from 0) (drop (from + 1) s) l (simp length-drop (omega arith)) (rw e at f) in
+      let x : getD (getD s from 0 ∷ drop (from + 1) s) m 0 ≡ getD s (from + m) 0 = ap (λ (r : List ℕ). getD r m 0) (sym e) ∙ getD-drop from s m 0 in
+      let z : from + 1 + m ≡ from + m + 1 = omega arith in
+      let y : drop m (drop (from + 1) s) ≡ drop (from + m + 1) s = drop-drop m (from + 1) s ∙ ap (λ (i : ℕ). drop i s) z in
+      rw (x, y) at k
 
-pub one-before-each : (s : List ℕ) (n : ℕ) → n < length s → length (take (n + 1 - 1) (drop 1 s)) ≤ length (take n s)
-one-before-each s n h =
-    let a : length (take (n + 1 - 1) (drop 1 s)) ≡ n + 1 - 1 = length-take-le (n + 1 - 1) (drop 1 s) (simp length-drop (omega arith)) in
-    let b : length (take n s) ≡ n = length-take-le n s (omega arith) in
-    omega (arith, a, b)
+  pub far-stands : getD s 0 0 ≡ slash → farBy (take front s) (take (front + 1 - 1) (drop 1 s)) ≡ true
+      → farBy (take (last + 16 - last) (drop last s)) (take (last + 17 - (last + 1)) (drop (last + 1) s)) ≡ true → true ≡ contentOf Path s
+  unfolding seenBy
+  far-stands g a b =
+      let u : front + 1 - 1 ≡ front = omega arith in
+      let v : last + 16 - last ≡ 16 = omega arith in
+      let w : last + 17 - (last + 1) ≡ 16 = omega arith in
+      let o : 0 + last ≡ last = omega arith in
+      let x = rw o at (skipped last front 0 (omega arith) (omega arith) (rw u at a)) in
+      let y = skipped 16 16 last (omega arith) (omega arith) (rw (v, w) at b) in
+      let z : drop (last + 16 + 1) s ≡ [] = drop-of-length-le s {i = last + 16 + 1} (omega arith) in
+      let seen : seenBehind (getD s (last + 16) 0) ≡ seenBy 1 (drop 1 s) = rw z at (y ∙ x ∙ ap (λ (c : ℕ). seenBy (seenBehind c) (drop 1 s)) g) in
+      sym (behind-stands (getD s (last + 16) 0)) ∙ ap (λ (k : ℕ). ltb k 2) seen ∙ path-judged s (omega arith) g
 
-module _ (s : List ℕ) (i : ℕ) (w : Read s i) where
-  pub read-all : getD s 0 0 ≡ slash → (seen last : ℕ) → seen ≡ seenBehind (getD s i 0) → last ≡ seenBy seen (take (length s - (i + 1)) (drop (i + 1) s)) → ltb last 2 ≡ contentOf Path s
-  read-all g seen last p e =
-      let z : take (length s - (i + 1)) (drop (i + 1) s) ≡ drop (i + 1) s = take-all (length s - (i + 1)) (drop (i + 1) s) (simp length-drop (omega arith)) in
-      ap (λ (k : ℕ). ltb k 2) (e ∙ ap₂ seenBy p z ∙ w .rest) ∙ path-judged s (omega (arith, w .inside)) g
+pub walk-stands : (s : List ℕ) → (length s ≡ 0 → ⊥) → getD s 0 0 ≡ slash → (seen : ℕ) → seen ≡ seenBy 1 (take (length s - 1) (drop 1 s)) → ltb seen 2 ≡ contentOf Path s
+walk-stands s h g seen e =
+    let z : take (length s - 1) (drop 1 s) ≡ drop 1 s = take-all (length s - 1) (drop 1 s) (simp length-drop (omega arith)) in
+    ap (λ (k : ℕ). ltb k 2) (e ∙ ap (seenBy 1) z) ∙ path-judged s (omega (arith, h)) g

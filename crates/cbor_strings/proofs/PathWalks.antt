@@ -7,7 +7,7 @@ use Prim.Native.Nat.{ℕ, zero, suc, _+_, _≤_, _<_}
 use native.Mathlib.Numerals.{add-one}
 use native.Mathlib.Omega.{arith}
 use borrow.Author.Tests.{le-leb, lt-leb, ne-eqb, leb-true, not-true}
-use lib.Dec.{eqb, leb}
+use lib.Dec.{eqb, leb, ltb}
 use lib.ListN.{length, take, drop, getD, drop-of-length-le}
 use lib.Seq.{drop-cons}
 use Rattle.basis.specs.Basis.{pick}
@@ -155,16 +155,24 @@ behind-goes-on a = by (eqb a slash)
     by true e = omega arith
     by false e = omega arith
 
--- so a front where nothing is near need not be walked
-pub far-skips : (n a : ℕ) (t : List ℕ) → n ≤ length t → farBy (take n (a ∷ t)) (take n t) ≡ true
-    → seenBy (seenBehind (getD (a ∷ t) n 0)) (drop n t) ≡ seenBy (seenBehind a) t
+-- so where nothing is near in a front, none of it need be walked
+pub far-skips : (m n a : ℕ) (t : List ℕ) → m ≤ n → n ≤ length t → farBy (take n (a ∷ t)) (take n t) ≡ true
+    → seenBy (seenBehind (getD (a ∷ t) m 0)) (drop m t) ≡ seenBy (seenBehind a) t
 unfolding nearBy allOf
-far-skips zero a t h f = refl
-far-skips (suc n) a [] h f = let z : ⊥ = omega arith in elim z [ ]
-far-skips (suc n) a (c ∷ t) h f =
+far-skips zero n a t l h f = refl
+far-skips (suc m) zero a t l h f = let z : ⊥ = omega arith in elim z [ ]
+far-skips (suc m) (suc n) a [] l h f = let z : ⊥ = omega arith in elim z [ ]
+far-skips (suc m) (suc n) a (c ∷ t) l h f =
     let here = eqb a slash && (eqb c 46 || eqb c slash) in
     let x = and-eq-true-iff (not (here || nearBy (take n (c ∷ t)) (take n t))) (within 0x2d 0x7e c && allOf (within 0x2d 0x7e) (take n t)) .0 f in
     let y = and-eq-true-iff (within 0x2d 0x7e c) (allOf (within 0x2d 0x7e) (take n t)) .0 (x .1) in
     let z = neither here (nearBy (take n (c ∷ t)) (take n t)) (not-true _ (x .0)) in
-    far-skips n c t (omega arith) (rw (z .1, y .1))
+    far-skips m n c t (omega arith) (omega arith) (rw (z .1, y .1))
     ∙ sym (seen-one (seenBehind a) c t (behind-goes-on a) ∙ ap (λ (k : ℕ). seenBy k t) (far-one a c (z .0) (y .0)))
+
+pub behind-stands : (a : ℕ) → ltb (seenBehind a) 2 ≡ true
+behind-stands a = by (eqb a slash)
+  where
+    by : (u : Bool) → ltb (pick u 1 0) 2 ≡ true
+    by true = refl
+    by false = refl

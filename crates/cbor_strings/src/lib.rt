@@ -10,7 +10,7 @@ ghost use mathlib.Core.Bool.{_&&_, _||_};
 ghost use Prim.Native.Nat.{_≤_, _<_, min, max};
 ghost use lib.ListN.{length};
 ghost use Rattle.cbor_strings.specs.Strings.{within, allOf, contentOf};
-ghost use Rattle.cbor_strings.specs.Inner.{kindOf, kindsFrom, farBy, seenBehind, nextSeen, seenBy};
+ghost use Rattle.cbor_strings.specs.Inner.{kindOf, kindsFrom, farBy, nextSeen, seenBy};
 ghost use Rattle.cbor_strings.specs.declared.Class.the-variants.{Path};
 ghost use Rattle.cbor_strings.specs.Reading.{readRun, readString};
 
@@ -194,18 +194,7 @@ fn far(before: &[u8], s: &[u8]) -> bool
     last <= 0x7e
 }
 
-// What is seen of the open segment of a path behind its first byte, or behind a byte where nothing is near.
-fn seen_behind(c: u8) -> u8
-    ensures { λ r. ⌜ r ≡ seenBehind c ⌝ }
-{
-    if c == b'/' {
-        seen::NOTHING
-    } else {
-        seen::ANYTHING
-    }
-}
-
-// What is seen of it behind one more byte. Letters are asked for first: they are most of a path.
+// What is seen of the open segment of a path behind one more byte. Letters are asked for first: they are most.
 fn next_seen(seen: u8, c: u8) -> u8
     ensures { λ r. ⌜ r ≡ nextSeen seen c ⌝ }
 {
@@ -258,7 +247,8 @@ fn walk(s: &[u8], seen: u8) -> u8
     so_far
 }
 
-// Whether a path's content is good. Its front, where nothing is near, is read many bytes at a time and not again.
+// Whether a path's content is good. One where nothing is near is read many bytes at a time: whole stretches of
+// sixteen from the front and, since they may leave some, the last sixteen. Any other, and a short one, is walked.
 fn path_is(s: &[u8]) -> bool
     ensures { λ r. ⌜ r ≡ contentOf Path (now (s .entry)) ⌝ }
 {
@@ -268,12 +258,16 @@ fn path_is(s: &[u8]) -> bool
     if s[0] != b'/' {
         return false;
     }
-    let front = (s.len() - 1) / 16 * 16;
-    let mut read: usize = 0;
-    if far(&s[..front], &s[1..front + 1]) {
-        read = front;
+    if 16 < s.len() {
+        let front = (s.len() - 1) / 16 * 16;
+        let last = s.len() - 17;
+        if far(&s[..front], &s[1..front + 1]) {
+            if far(&s[last..last + 16], &s[last + 1..last + 17]) {
+                return true;
+            }
+        }
     }
-    walk(&s[read + 1..], seen_behind(s[read])) < seen::DOT
+    walk(&s[1..], seen::NOTHING) < seen::DOT
 }
 
 pub fn content_is(s: &[u8], class: Class) -> bool

@@ -20,7 +20,7 @@ pub struct RequestWords {
     #[arg(long, value_name = "METHOD", help_heading = "Request")]
     pub method: Option<String>,
 
-    /// Of what (needed)
+    /// Of what (needed): without %, // and the segments . and .., which proxies rewrite
     #[arg(long, value_name = "PATH", help_heading = "Request")]
     pub path: Option<String>,
 

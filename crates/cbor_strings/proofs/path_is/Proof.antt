@@ -1,23 +1,14 @@
 use mathlib.Core.Path.{sym, _∙_}
-use mathlib.Core.Logic.{⊎-elim}
 use native.Mathlib.Omega.{arith}
 use lib.Seq.{length-take-le}
+use Rattle.cbor_strings.proofs.PathJudged.{no-path, no-slash, front-inside, one-before-each, far-stands, walk-stands}
 use borrow.Author.Needs.{needs}
-use Rattle.cbor_strings.proofs.PathJudged.{Read, no-path, no-slash, read-first, read-front, read-as, front-inside, one-before-each, read-all}
 use Rattle.cbor_strings.proofs.path_is.Statement.{statement}
 use Rattle.cbor_strings.proofs.path_is.Tie as tie
 use Rattle.cbor_strings.proofs.path_is.Reads as reads
 use Rattle.cbor_strings.proofs.path_is.Lts as lts
 use Rattle.cbor_strings.proofs.far.Reads as far-reads
-use Rattle.cbor_strings.proofs.seen_behind.Reads as seen-behind-reads
 use Rattle.cbor_strings.proofs.walk.Reads as walk-reads
-
--- what is read when the walk begins
-read : (c : tie.Joined3) → Read (c .before .before .before .before .before .before .before .before .args .s .now) (c .if3 .read)
-read c =
-    let h = c .before .before .before .before .before .before .if1 .left in
-    let e = c .before .before .before .before .if2 .left in
-    ⊎-elim (λ w. read-as (w .1) (read-front _ _ (front-inside _ h) e (sym (c .before .far .ensures) ∙ w .0 .taken))) (λ w. read-as (w .1) (read-first _ h e)) (c .if3 .came)
 
 returns : tie.Need-returns
 returns c = no-path _ (c .if1 .taken)
@@ -34,8 +25,11 @@ sub-front c = search needs
 mul-front : tie.Need-mul-front
 mul-front c = search needs
 
+sub-last : tie.Need-sub-last
+sub-last c = search needs
+
 slice-aggregate-far : tie.Need-slice-aggregate-far
-slice-aggregate-far c = sym (length-take-le _ _ (omega (arith, c .before .before .before .if1 .left)))
+slice-aggregate-far c = sym (length-take-le _ _ (omega (arith, front-inside (c .before .before .before .before .before .before .args .s .now) (c .before .if3 .taken))))
 
 add-far : tie.Need-add-far
 add-far c = search needs
@@ -50,33 +44,57 @@ part-far-end : tie.Need-part-far-end
 part-far-end c = search needs
 
 far-requires : tie.Need-far-requires
-far-requires c κs = one-before-each _ _ (front-inside _ (c .before .before .before .before .if1 .left))
+far-requires c κs = let s = c .before .before .before .before .before .before .before .args .s .now in one-before-each s (c .before .before .if3 .taken) _ (front-inside s (c .before .before .if3 .taken))
 
-add-walk : tie.Need-add-walk
-add-walk c = let r = read (c .before) .inside in search needs
+add-far-2 : tie.Need-add-far-2
+add-far-2 c = search needs
+
+sub-far-2 : tie.Need-sub-far-2
+sub-far-2 c = search needs
+
+part-far-start-2 : tie.Need-part-far-start-2
+part-far-start-2 c = search needs
+
+part-far-end-2 : tie.Need-part-far-end-2
+part-far-end-2 c = search needs
+
+add-far-3 : tie.Need-add-far-3
+add-far-3 c = search needs
+
+add-far-4 : tie.Need-add-far-4
+add-far-4 c = search needs
+
+sub-far-3 : tie.Need-sub-far-3
+sub-far-3 c = search needs
+
+part-far-start-3 : tie.Need-part-far-start-3
+part-far-start-3 c = search needs
+
+part-far-end-3 : tie.Need-part-far-end-3
+part-far-end-3 c = search needs
+
+far-requires-2 : tie.Need-far-requires-2
+far-requires-2 c κs = search needs
+
+returns-3 : tie.Need-returns-3
+returns-3 c =
+    let long = c .before .before .before .before .before .before .before .before in
+    far-stands _ (long .if3 .taken) (long .before .if2 .left) (sym (c .before .before .before .before .before .far .ensures) ∙ c .before .before .before .before .if4 .taken) (sym (c .before .far2 .ensures) ∙ c .if5 .taken)
 
 sub-walk : tie.Need-sub-walk
-sub-walk c = let r = read (c .before) .inside in omega arith
+sub-walk c = search needs
 
 part-walk-start : tie.Need-part-walk-start
-part-walk-start c = let r = read (c .before) .inside in omega arith
+part-walk-start c = search needs
 
 part-walk-end : tie.Need-part-walk-end
 part-walk-end c = search needs
 
-shared-slice-read-seen-behind : tie.Need-shared-slice-read-seen-behind
-shared-slice-read-seen-behind c = read (c .before .before .before) .inside
-
-seen-behind-requires : tie.Need-seen-behind-requires
-seen-behind-requires c κs = search needs
-
 walk-requires : tie.Need-walk-requires
 walk-requires c κs = search needs
 
-returns-3 : tie.Need-returns-3
-returns-3 c =
-    let walked = c .before .before .before .before .before in
-    read-all _ _ (read walked) (walked .before .before .before .before .if2 .left) _ _ (c .before .seen-behind .ensures) (c .walk .ensures)
+returns-4 : tie.Need-returns-4
+returns-4 c = walk-stands _ (c .before .before .before .before .before .if1 .left) (c .before .before .before .if2 .left) _ (c .walk .ensures)
 
 pub path-is-spec : {M : Type 1} → statement M
 path-is-spec =
@@ -87,17 +105,26 @@ path-is-spec =
     returns-2
     sub-front
     mul-front
+    sub-last
     slice-aggregate-far
     add-far
     sub-far
     part-far-start
     part-far-end
     far-requires
-    add-walk
+    add-far-2
+    sub-far-2
+    part-far-start-2
+    part-far-end-2
+    add-far-3
+    add-far-4
+    sub-far-3
+    part-far-start-3
+    part-far-end-3
+    far-requires-2
+    returns-3
     sub-walk
     part-walk-start
     part-walk-end
-    shared-slice-read-seen-behind
-    seen-behind-requires
     walk-requires
-    returns-3)
+    returns-4)
