@@ -72,13 +72,13 @@ returns-2 : tie.Need-returns-2 Inv-loop μ-loop
 returns-2 c =
     let l = c .before .before .before .loop .inv in
     let e = c .before .before .loop-test .left in
-    rw (← nearing-all _ _ _ _ (l .1) e, c .before .if1 .left, ← both-held _ _ _ _ _ _ (l .2) (l .3) e, lt-leb _ _ (c .if2 .taken))
+    rw (← nearing-all _ _ _ _ (l .1) e, c .before .if1 .left, ← both-held _ _ _ _ _ _ (l .2) (l .3) e, lt-leb 45 (c .before .before .before .loop .first) (omega (arith, c .if2 .taken)))
 
 returns-3 : tie.Need-returns-3 Inv-loop μ-loop
 returns-3 c =
     let l = c .before .before .before .loop .inv in
     let e = c .before .before .loop-test .left in
-    rw (← nearing-all _ _ _ _ (l .1) e, c .before .if1 .left, ← both-held _ _ _ _ _ _ (l .2) (l .3) e, le-leb _ _ (c .if2 .left))
+    rw (← nearing-all _ _ _ _ (l .1) e, c .before .if1 .left, ← both-held _ _ _ _ _ _ (l .2) (l .3) e, le-leb 45 (c .before .before .before .loop .first) (omega (arith, c .if2 .left)))
 
 pub far-spec : {M : Type 1} → statement M
 far-spec =
