@@ -6,7 +6,7 @@ use Prim.Native.Nat.{ℕ, _+_, _-_, _*_, _/_, _≤_, _<_}
 use Prim.Native.String.{String}
 use native.Mathlib.Numerals.{add-one}
 use native.Mathlib.Omega.{arith}
-use borrow.Author.Tests.{eqb-true, eq-eqb, ne-eqb}
+use borrow.Author.Tests.{eqb-true, eq-eqb, ne-eqb, not-true}
 use lib.Dec.{eqb, ltb}
 use lib.ListN.{length, take, drop, getD, length-drop, drop-of-length-le}
 use lib.Seq.{drop-cons, drop-drop, getD-drop, take-all, length-take-le}
@@ -14,7 +14,7 @@ use Rattle.basis.specs.Basis.{pick, ascii}
 use Rattle.basis.specs.Same.{sameOf}
 use Rattle.cbor_strings.specs.Paths.{slash, starts, has, upTo, segments, among, isRewritten}
 use Rattle.cbor_strings.specs.Strings.{isPrintable, allOf, contentOf}
-use Rattle.cbor_strings.specs.Inner.{isOutside, nextSeen, seenBy, seenBehind, farBy}
+use Rattle.cbor_strings.specs.Inner.{isOutside, nextSeen, seenBy, seenBehind, nearBy}
 use Rattle.cbor_strings.specs.declared.Class.the-variants.{Path}
 use Rattle.cbor_strings.proofs.PathWalks.{seen-refused, seen-one, far-skips, behind-stands}
 
@@ -178,7 +178,7 @@ module _ (s : List ℕ) (h : 16 < length s) where
       omega (arith, a, b)
 
   -- what a stretch leaves to be seen, from the byte before it on
-  skipped : (m n from : ℕ) → m ≤ n → from + n < length s → farBy (take n (drop from s)) (take n (drop (from + 1) s)) ≡ true
+  skipped : (m n from : ℕ) → m ≤ n → from + n < length s → nearBy (take n (drop from s)) (take n (drop (from + 1) s)) ≡ false
       → seenBy (seenBehind (getD s (from + m) 0)) (drop (from + m + 1) s) ≡ seenBy (seenBehind (getD s from 0)) (drop (from + 1) s)
   skipped m n from l g f =
       let e : drop from s ≡ getD s from 0 ∷ drop (from + 1) s = rw (drop-cons s from 0 (omega arith), add-one) in
@@ -188,16 +188,18 @@ module _ (s : List ℕ) (h : 16 < length s) where
       let y : drop m (drop (from + 1) s) ≡ drop (from + m + 1) s = drop-drop m (from + 1) s ∙ ap (λ (i : ℕ). drop i s) z in
       rw (x, y) at k
 
-  pub far-stands : getD s 0 0 ≡ slash → farBy (take front s) (take (front + 1 - 1) (drop 1 s)) ≡ true
-      → farBy (take (last + 16 - last) (drop last s)) (take (last + 17 - (last + 1)) (drop (last + 1) s)) ≡ true → true ≡ contentOf Path s
+  pub far-stands : getD s 0 0 ≡ slash → true ≡ not (nearBy (take front s) (take (front + 1 - 1) (drop 1 s)))
+      → true ≡ not (nearBy (take (last + 16 - last) (drop last s)) (take (last + 17 - (last + 1)) (drop (last + 1) s))) → true ≡ contentOf Path s
   unfolding seenBy
   far-stands g a b =
       let u : front + 1 - 1 ≡ front = omega arith in
       let v : last + 16 - last ≡ 16 = omega arith in
       let w : last + 17 - (last + 1) ≡ 16 = omega arith in
+      let p : nearBy (take front s) (take (front + 1 - 1) (drop 1 s)) ≡ false = not-true _ (sym a) in
+      let q : nearBy (take (last + 16 - last) (drop last s)) (take (last + 17 - (last + 1)) (drop (last + 1) s)) ≡ false = not-true _ (sym b) in
       let o : 0 + last ≡ last = omega arith in
-      let x = rw o at (skipped last front 0 (omega arith) (omega arith) (rw u at a)) in
-      let y = skipped 16 16 last (omega arith) (omega arith) (rw (v, w) at b) in
+      let x = rw o at (skipped last front 0 (omega arith) (omega arith) (rw u at p)) in
+      let y = skipped 16 16 last (omega arith) (omega arith) (rw (v, w) at q) in
       let z : drop (last + 16 + 1) s ≡ [] = drop-of-length-le s {i = last + 16 + 1} (omega arith) in
       let seen : seenBehind (getD s (last + 16) 0) ≡ seenBy 1 (drop 1 s) = rw z at (y ∙ x ∙ ap (λ (c : ℕ). seenBy (seenBehind c) (drop 1 s)) g) in
       sym (behind-stands (getD s (last + 16) 0)) ∙ ap (λ (k : ℕ). ltb k 2) seen ∙ path-judged s (omega arith) g

@@ -1,19 +1,19 @@
 -- A path is judged a byte after the other: what is seen behind each byte, in the terms that the code has, and that it comes to document 02's
 -- sentence (M-106).
 use mathlib.Core.Path.{_≡_, refl, sym, ap, ap₂, _∙_}
-use mathlib.Core.Bool.{Bool, true, false, not, _&&_, _||_, or-true, or-false, and-eq-true-iff, true≢false, false≢true}
+use mathlib.Core.Bool.{Bool, true, false, _&&_, _||_, or-true, or-false, true≢false}
 use mathlib.Core.List.{List, [], _∷_}
 use Prim.Native.Nat.{ℕ, zero, suc, _+_, _≤_, _<_}
 use native.Mathlib.Numerals.{add-one}
 use native.Mathlib.Omega.{arith}
-use borrow.Author.Tests.{le-leb, lt-leb, ne-eqb, leb-true, not-true}
-use lib.Dec.{eqb, leb, ltb}
+use borrow.Author.Tests.{le-leb, lt-leb, ltb-false, ne-eqb}
+use lib.Dec.{eqb, ltb}
 use lib.ListN.{length, take, drop, getD, drop-of-length-le}
 use lib.Seq.{drop-cons}
 use Rattle.basis.specs.Basis.{pick}
 use Rattle.cbor_strings.specs.Paths.{slash}
-use Rattle.cbor_strings.specs.Strings.{within, isPrintable, allOf}
-use Rattle.cbor_strings.specs.Inner.{afterDot, isOutside, nextSeen, seenBy, seenBehind, nearBy, farBy}
+use Rattle.cbor_strings.specs.Strings.{isPrintable}
+use Rattle.cbor_strings.specs.Inner.{afterDot, isOutside, nextSeen, seenBy, seenBehind, isNear, nearBy}
 
 -- one byte
 module _ (seen c : ℕ) where
@@ -105,8 +105,9 @@ pub neither : (a b : Bool) → a || b ≡ false → (a ≡ false) × (b ≡ fals
 neither true b e = absurd (true≢false e)
 neither false b e = (refl, e)
 
--- many at a time: whether a "." or a "/" was behind a "/" among the first i
+-- many at a time: whether anything was near among the first i
 pub record Nearing (before s : List ℕ) (near : Bool) (i : ℕ) : Type 0 where
+  pub inside : i ≤ length s
   pub rest : near || nearBy (drop i before) (drop i s) ≡ nearBy before s
 
 or-assoc : (p q r : Bool) → (p || q) || r ≡ p || (q || r)
@@ -114,13 +115,13 @@ or-assoc true q r = refl
 or-assoc false q r = refl
 
 pub nearing-none : (before s : List ℕ) → Nearing before s false 0
-nearing-none before s = record { rest = refl }
+nearing-none before s = record { inside = omega arith; rest = refl }
 
 module _ (before s : List ℕ) (near : Bool) (i : ℕ) (w : Nearing before s near i) where
-  pub nearing-one : (next : Bool) → i < length before → i < length s
-      → next ≡ near || (eqb (getD before i 0) slash && (eqb (getD s i 0) 46 || eqb (getD s i 0) slash)) → Nearing before s next (i + 1)
+  pub nearing-one : (next : Bool) → i < length before → i < length s → next ≡ near || isNear (getD before i 0) (getD s i 0) → Nearing before s next (i + 1)
   unfolding nearBy
   nearing-one next g h e = record {
+    inside = omega arith;
     rest = rw e (or-assoc near _ _ ∙ (rw (front before i g, front s i h) at (w .rest)));
   }
 
@@ -133,20 +134,22 @@ module _ (before s : List ℕ) (near : Bool) (i : ℕ) (w : Nearing before s nea
       none (a ∷ p) = refl
 
 -- behind a byte near which nothing is, as much is seen as this byte says
-far-one : (a c : ℕ) → eqb a slash && (eqb c 46 || eqb c slash) ≡ false → within 0x2d 0x7e c ≡ true → nextSeen (seenBehind a) c ≡ seenBehind c
-unfolding nextSeen isOutside isPrintable
-far-one a c n r = by (leb 45 c) refl (leb c 126) refl r (eqb a slash) (eqb c slash) refl (eqb c 46) refl n
+far-one : (a c : ℕ) → isNear a c ≡ false → nextSeen (seenBehind a) c ≡ seenBehind c
+unfolding isNear nextSeen isOutside isPrintable
+far-one a c n =
+    let x = neither (ltb c 45 || ltb 126 c) (eqb a slash && (eqb c 46 || eqb c slash)) n in
+    let y = neither (ltb c 45) (ltb 126 c) (x .0) in
+    let l = ltb-false c 45 (y .0) in
+    let h = ltb-false 126 c (y .1) in
+    rw (ne-eqb c 37 (λ e. omega (arith, l)), le-leb 33 c (omega (arith, l)), le-leb c 126 h) (by (eqb a slash) (eqb c slash) (eqb c 46) (x .1))
   where
-    by : (x : Bool) → leb 45 c ≡ x → (y : Bool) → leb c 126 ≡ y → x && y ≡ true → (u : Bool) (v : Bool) → eqb c slash ≡ v → (w : Bool) → eqb c 46 ≡ w → u && (w || v) ≡ false
-        → pick (eqb c 37 || not (leb 33 c && leb c 126)) 4 (pick (eqb c slash) (pick (eqb (pick u 1 0) 0) 1 4) (pick (eqb c 46) (afterDot (pick u 1 0)) 0)) ≡ pick (eqb c slash) 1 0
-    by false p y q r u v e w f n = absurd (false≢true r)
-    by true p false q r u v e w f n = absurd (false≢true r)
-    by true p true q r true true e w f n = absurd (true≢false (sym (or-true w) ∙ n))
-    by true p true q r true false e true f n = absurd (true≢false n)
-    by true p true q r true false e false f n = rw (ne-eqb c 37 (λ e. omega (arith, leb-true 45 c p)), le-leb 33 c (omega (arith, leb-true 45 c p)), q, e, f)
-    by true p true q r false true e w f n = rw (ne-eqb c 37 (λ e. omega (arith, leb-true 45 c p)), le-leb 33 c (omega (arith, leb-true 45 c p)), q, e)
-    by true p true q r false false e true f n = rw (ne-eqb c 37 (λ e. omega (arith, leb-true 45 c p)), le-leb 33 c (omega (arith, leb-true 45 c p)), q, e, f)
-    by true p true q r false false e false f n = rw (ne-eqb c 37 (λ e. omega (arith, leb-true 45 c p)), le-leb 33 c (omega (arith, leb-true 45 c p)), q, e, f)
+    by : (u v w : Bool) → u && (w || v) ≡ false → _≡_ {A = ℕ} (pick v (pick (eqb (pick u 1 0) 0) 1 4) (pick w (afterDot (pick u 1 0)) 0)) (pick v 1 0)
+    by true true w n = absurd (true≢false (sym (or-true w) ∙ n))
+    by true false true n = absurd (true≢false n)
+    by true false false n = refl
+    by false true w n = refl
+    by false false true n = refl
+    by false false false n = refl
 
 behind-goes-on : (a : ℕ) → seenBehind a ≡ 4 → ⊥
 behind-goes-on a = by (eqb a slash)
@@ -156,19 +159,16 @@ behind-goes-on a = by (eqb a slash)
     by false e = omega arith
 
 -- so where nothing is near in a front, none of it need be walked
-pub far-skips : (m n a : ℕ) (t : List ℕ) → m ≤ n → n ≤ length t → farBy (take n (a ∷ t)) (take n t) ≡ true
+pub far-skips : (m n a : ℕ) (t : List ℕ) → m ≤ n → n ≤ length t → nearBy (take n (a ∷ t)) (take n t) ≡ false
     → seenBy (seenBehind (getD (a ∷ t) m 0)) (drop m t) ≡ seenBy (seenBehind a) t
-unfolding nearBy allOf
+unfolding nearBy
 far-skips zero n a t l h f = refl
 far-skips (suc m) zero a t l h f = let z : ⊥ = omega arith in elim z [ ]
 far-skips (suc m) (suc n) a [] l h f = let z : ⊥ = omega arith in elim z [ ]
 far-skips (suc m) (suc n) a (c ∷ t) l h f =
-    let here = eqb a slash && (eqb c 46 || eqb c slash) in
-    let x = and-eq-true-iff (not (here || nearBy (take n (c ∷ t)) (take n t))) (within 0x2d 0x7e c && allOf (within 0x2d 0x7e) (take n t)) .0 f in
-    let y = and-eq-true-iff (within 0x2d 0x7e c) (allOf (within 0x2d 0x7e) (take n t)) .0 (x .1) in
-    let z = neither here (nearBy (take n (c ∷ t)) (take n t)) (not-true _ (x .0)) in
-    far-skips m n c t (omega arith) (omega arith) (rw (z .1, y .1))
-    ∙ sym (seen-one (seenBehind a) c t (behind-goes-on a) ∙ ap (λ (k : ℕ). seenBy k t) (far-one a c (z .0) (y .0)))
+    let z = neither (isNear a c) (nearBy (take n (c ∷ t)) (take n t)) f in
+    far-skips m n c t (omega arith) (omega arith) (z .1)
+    ∙ sym (seen-one (seenBehind a) c t (behind-goes-on a) ∙ ap (λ (k : ℕ). seenBy k t) (far-one a c (z .0)))
 
 pub behind-stands : (a : ℕ) → ltb (seenBehind a) 2 ≡ true
 behind-stands a = by (eqb a slash)

@@ -2,10 +2,10 @@
 use mathlib.Core.Bool.{Bool, false, not, _&&_, _||_}
 use mathlib.Core.List.{List, [], _∷_}
 use Prim.Native.Nat.{ℕ}
-use lib.Dec.{eqb, leb}
+use lib.Dec.{eqb, leb, ltb}
 use Rattle.basis.specs.Basis.{pick}
 use Rattle.cbor_strings.specs.Paths.{slash, percent}
-use Rattle.cbor_strings.specs.Strings.{isHex, isName, isPrintable, isUpper, allOf, within}
+use Rattle.cbor_strings.specs.Strings.{isHex, isName, isPrintable, isUpper}
 
 -- the kinds of characters, disjoint: each class is a run of them
 unfoldable pub kindOf : ℕ → ℕ
@@ -48,12 +48,12 @@ seenBy seen (c ∷ t) = pick (eqb seen refused) refused (seenBy (nextSeen seen c
 abbrev pub seenBehind : ℕ → ℕ
 seenBehind c = pick (eqb c slash) nothing anything
 
--- a "." or a "/" behind a "/"; the first list has the byte before each of the second
+-- a byte below "-", where "%" is, or past "~"; or a "." or a "/" behind a "/"
+unfoldable pub isNear : ℕ → ℕ → Bool
+isNear before c = (ltb c 0x2d || ltb 0x7e c) || (eqb before slash && (eqb c 46 || eqb c slash))
+
+-- the first list has the byte before each of the second
 unfoldable pub nearBy : List ℕ → List ℕ → Bool
 nearBy [] t = false
 nearBy (a ∷ p) [] = false
-nearBy (a ∷ p) (c ∷ t) = (eqb a slash && (eqb c 46 || eqb c slash)) || nearBy p t
-
--- and none below "-", where "%" is, or past "~"
-abbrev pub farBy : List ℕ → List ℕ → Bool
-farBy before s = not (nearBy before s) && allOf (within 0x2d 0x7e) s
+nearBy (a ∷ p) (c ∷ t) = isNear a c || nearBy p t

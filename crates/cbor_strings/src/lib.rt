@@ -6,11 +6,11 @@ use cbor_heads::defect::BOUNDS;
 use cbor_heads::defect::CBOR;
 use cbor_heads::major;
 ghost use mathlib.Core.Path.{_≡_};
-ghost use mathlib.Core.Bool.{_&&_, _||_};
+ghost use mathlib.Core.Bool.{not, _&&_, _||_};
 ghost use Prim.Native.Nat.{_≤_, _<_, min, max};
 ghost use lib.ListN.{length};
 ghost use Rattle.cbor_strings.specs.Strings.{within, allOf, contentOf};
-ghost use Rattle.cbor_strings.specs.Inner.{kindOf, kindsFrom, farBy, nextSeen, seenBy};
+ghost use Rattle.cbor_strings.specs.Inner.{kindOf, kindsFrom, nearBy, nextSeen, seenBy};
 ghost use Rattle.cbor_strings.specs.declared.Class.the-variants.{Path};
 ghost use Rattle.cbor_strings.specs.Reading.{readRun, readString};
 
@@ -172,26 +172,17 @@ fn both(a: bool, b: bool) -> bool
 // characters at a time.
 fn far(before: &[u8], s: &[u8]) -> bool
     requires { ⌜ length (now s) ≤ length (now before) ⌝ }
-    ensures { λ r. ⌜ r ≡ farBy (now (before .entry)) (now (s .entry)) ⌝ }
+    ensures { λ r. ⌜ r ≡ not (nearBy (now (before .entry)) (now (s .entry))) ⌝ }
 {
     let mut near = false;
-    let mut first: u8 = 255;
-    let mut last: u8 = 0;
     let mut i: usize = 0;
     while i < s.len() {
         let c = s[i];
-        first = lower(c, first);
-        last = higher(c, last);
-        near = either(near, both(before[i] == b'/', either(c == b'.', c == b'/')));
+        let behind = both(before[i] == b'/', either(c == b'.', c == b'/'));
+        near = either(near, either(either(c < b'-', 0x7e < c), behind));
         i += 1;
     }
-    if near {
-        return false;
-    }
-    if first < b'-' {
-        return false;
-    }
-    last <= 0x7e
+    if near { false } else { true }
 }
 
 // What is seen of the open segment of a path behind one more byte. Letters are asked for first: they are most.

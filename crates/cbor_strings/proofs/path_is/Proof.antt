@@ -79,7 +79,7 @@ far-requires-2 c κs = search needs
 returns-3 : tie.Need-returns-3
 returns-3 c =
     let long = c .before .before .before .before .before .before .before .before in
-    far-stands _ (long .if3 .taken) (long .before .if2 .left) (sym (c .before .before .before .before .before .far .ensures) ∙ c .before .before .before .before .if4 .taken) (sym (c .before .far2 .ensures) ∙ c .if5 .taken)
+    far-stands _ (long .if3 .taken) (long .before .if2 .left) (sym (c .before .before .before .before .if4 .taken) ∙ c .before .before .before .before .before .far .ensures) (sym (c .if5 .taken) ∙ c .before .far2 .ensures)
 
 sub-walk : tie.Need-sub-walk
 sub-walk c = search needs
