@@ -117,7 +117,9 @@ static void put_request(const struct parts *parts)
     put_number(&request, parts->method, 2);
     put_run(&request, 'M', parts->method);
     put_number(&request, parts->path, 2);
-    put_run(&request, '/', parts->path);
+    /* Segments of one byte, as the prefix of scope.longest has them. */
+    for (size_t i = 0; i < parts->path; i++)
+        put_run(&request, i % 2 ? 'p' : '/', 1);
     put_number(&request, parts->tenant, 2);
     put_run(&request, 'T', parts->tenant);
     if (parts->flags & BHINORPA_FLAG_AUDIENCE) {
