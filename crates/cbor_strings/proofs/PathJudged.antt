@@ -1,22 +1,22 @@
 -- What is seen at a path's end decides as document 02's sentence does (M-106): a segment that is "." or ".." there, and what was refused on the way.
-use mathlib.Core.Path.{_≡_, refl, sym, ap, ap₂, subst, _∙_}
+use mathlib.Core.Path.{_≡_, refl, sym, ap, subst, _∙_}
 use mathlib.Core.Bool.{Bool, true, false, not, _&&_, _||_, and-true, and-false, false≢true}
 use mathlib.Core.List.{List, [], _∷_}
+use mathlib.Mathlib.Data.Bool.Basic.{or-eq-false-eq-eq-false-and-eq-false as neither}
 use Prim.Native.Nat.{ℕ, _+_, _-_, _*_, _/_, _≤_, _<_}
 use Prim.Native.String.{String}
-use native.Mathlib.Numerals.{add-one}
 use native.Mathlib.Omega.{arith}
-use borrow.Author.Tests.{eqb-true, eq-eqb, ne-eqb, not-true}
+use borrow.Author.Tests.{eqb-true, eqb-false, eq-eqb, ne-eqb, not-true, not-false}
 use lib.Dec.{eqb, ltb}
 use lib.ListN.{length, take, drop, getD, length-drop, drop-of-length-le}
-use lib.Seq.{drop-cons, drop-drop, getD-drop, take-all, length-take-le}
+use lib.Seq.{drop-drop, getD-drop, take-all, length-take-le}
 use Rattle.basis.specs.Basis.{pick, ascii}
 use Rattle.basis.specs.Same.{sameOf}
-use Rattle.cbor_strings.specs.Paths.{slash, starts, has, upTo, segments, among, isRewritten}
+use Rattle.cbor_strings.specs.Paths.{slash, percent, starts, has, upTo, segments, among, isRewritten}
 use Rattle.cbor_strings.specs.Strings.{isPrintable, allOf, contentOf}
 use Rattle.cbor_strings.specs.Inner.{isOutside, nextSeen, seenBy, seenBehind, nearBy}
 use Rattle.cbor_strings.specs.declared.Class.the-variants.{Path}
-use Rattle.cbor_strings.proofs.PathWalks.{seen-refused, seen-one, far-skips, behind-stands}
+use Rattle.cbor_strings.proofs.PathWalks.{seen-refused, seen-one, drop-front, far-skips, behind-stands}
 
 -- a text of which nothing is refused, whatever stands before it
 abbrev free : List ℕ → Bool
@@ -53,6 +53,10 @@ unfolding isRewritten has starts segments among allOf isPrintable
 behind-slash t =
     gather (allOf isPrintable t) (has (ascii "%") t) (has (ascii "//") t) (among (ascii ".") (segments t)) (among (ascii "..") (segments t)) (starts (ascii "/") t) (goes "." t) (goes ".." t)
 
+-- what differs from a byte does so either way about
+other-way : (a c : ℕ) → eqb c a ≡ false → eqb a c ≡ false
+other-way a c e = ne-eqb a c (λ h. eqb-false c a e (sym h))
+
 -- a byte of each kind before a text
 module _ (c : ℕ) (t : List ℕ) where
   free-outside : isOutside c ≡ true → free (c ∷ t) ≡ false
@@ -65,17 +69,12 @@ module _ (c : ℕ) (t : List ℕ) where
       by true e true g = rw (eq-eqb 37 c (sym (eqb-true c 37 e)), and-false (allOf isPrintable t))
       by false e true g = absurd (false≢true g)
 
-  inside-is : (u : Bool) → eqb c 37 ≡ u → (p : Bool) → isPrintable c ≡ p → u || not p ≡ false → (eqb 37 c ≡ false) × (isPrintable c ≡ true)
-  inside-is true e p f g = absurd (false≢true (sym g))
-  inside-is false e false f g = absurd (false≢true (sym g))
-  inside-is false e true f g = (ne-eqb 37 c (λ h. false≢true (sym e ∙ eq-eqb c 37 (sym h))), f)
-
   module _ (o : isOutside c ≡ false) (e : eqb c slash ≡ false) where
     free-other : free (c ∷ t) ≡ free t
     unfolding isOutside isRewritten has starts segments allOf
     free-other =
-        let i = inside-is (eqb c 37) refl (isPrintable c) refl o in
-        rw (i .0, i .1, e, ne-eqb slash c (λ h. false≢true (sym e ∙ eq-eqb c slash (sym h))))
+        let i = neither (eqb c percent) (not (isPrintable c)) .0 o in
+        rw (other-way percent c (i .0), not-false (isPrintable c) (i .1), e, other-way slash c e)
 
 refused-ends : (t : List ℕ) → ends 4 t ≡ false
 refused-ends t = ap (λ (k : ℕ). ltb k 2) (seen-refused t)
@@ -104,11 +103,10 @@ module _ (c : ℕ) (t : List ℕ) where
   judged-other : isOutside c ≡ false → eqb c slash ≡ false → eqb c 46 ≡ false → Judged t → Judged (c ∷ t)
   unfolding nextSeen upTo starts sameOf
   judged-other o e f j =
-      let back : eqb slash c ≡ false = ne-eqb slash c (λ h. false≢true (sym e ∙ eq-eqb c slash (sym h))) in
       let same = j .anything ∙ sym (free-other c t o e) in
       record {
         anything = step 0 0 (λ e. omega arith) (rw (o, e, f)) ∙ same;
-        nothing = rw (back, e, f, and-true (free (c ∷ t))) (step 1 0 (λ e. omega arith) (rw (o, e, f)) ∙ same);
+        nothing = rw (other-way slash c e, e, f, and-true (free (c ∷ t))) (step 1 0 (λ e. omega arith) (rw (o, e, f)) ∙ same);
         dot = rw (e, f, and-true (free (c ∷ t))) (step 2 0 (λ e. omega arith) (rw (o, e, f)) ∙ same);
         dots = rw (e, and-true (free (c ∷ t))) (step 3 0 (λ e. omega arith) (rw (o, e, f)) ∙ same);
       }
@@ -181,7 +179,7 @@ module _ (s : List ℕ) (h : 16 < length s) where
   skipped : (m n from : ℕ) → m ≤ n → from + n < length s → nearBy (take n (drop from s)) (take n (drop (from + 1) s)) ≡ false
       → seenBy (seenBehind (getD s (from + m) 0)) (drop (from + m + 1) s) ≡ seenBy (seenBehind (getD s from 0)) (drop (from + 1) s)
   skipped m n from l g f =
-      let e : drop from s ≡ getD s from 0 ∷ drop (from + 1) s = rw (drop-cons s from 0 (omega arith), add-one) in
+      let e = drop-front s from (omega arith) in
       let k = far-skips m n (getD s from 0) (drop (from + 1) s) l (simp length-drop (omega arith)) (rw e at f) in
       let x : getD (getD s from 0 ∷ drop (from + 1) s) m 0 ≡ getD s (from + m) 0 = ap (λ (r : List ℕ). getD r m 0) (sym e) ∙ getD-drop from s m 0 in
       let z : from + 1 + m ≡ from + m + 1 = omega arith in

@@ -3,6 +3,7 @@
 use mathlib.Core.Path.{_≡_, refl, sym, ap, ap₂, subst, _∙_}
 use mathlib.Core.Bool.{Bool, true, false, not, _&&_, _||_, and-eq-true-iff, and-true, true≢false, false≢true}
 use mathlib.Core.List.{List, [], _∷_, _++_, append-nil, cons-ne-nil}
+use mathlib.Mathlib.Data.Bool.Basic.{or-eq-false-eq-eq-false-and-eq-false as neither}
 use Prim.Native.Nat.{ℕ}
 use borrow.Author.Tests.{eqb-true, eqb-false, eq-eqb, ne-eqb, not-true}
 use lib.Dec.{eqb}
@@ -14,7 +15,6 @@ use Rattle.cbor_strings.specs.Paths.{slash, percent, starts, has, upTo, 
 use Rattle.cbor_strings.specs.Strings.{isPrintable, allOf, contentOf}
 use Rattle.cbor_strings.specs.Segments.{pathOf, isSegmentByte, GoodSegment, GoodSegments, last, more, Clean}
 use Rattle.cbor_strings.specs.declared.Class.the-variants.{Path}
-use Rattle.cbor_strings.proofs.PathWalks.{neither}
 
 -- every text is what stands before its first "/" and the path of its segments
 pub path-again : (s : List ℕ) → upTo s ++ pathOf (segments s) ≡ s
@@ -70,8 +70,8 @@ unfolding allOf has
 only-fine [] p n d = end
 only-fine (c ∷ t) p n d =
     let x = and-eq-true-iff (isPrintable c) (allOf isPrintable t) .0 p in
-    let y = neither (starts (ascii "%") (c ∷ t)) (has (ascii "%") t) n in
-    let z = neither (starts (ascii "//") (c ∷ t)) (has (ascii "//") t) d in
+    let y = neither (starts (ascii "%") (c ∷ t)) (has (ascii "%") t) .0 n in
+    let z = neither (starts (ascii "//") (c ∷ t)) (has (ascii "//") t) .0 d in
     byte c t (x .0) (sym (begins-one percent c t) ∙ y .0) (sym (begins slash c (ascii "/") t) ∙ z .0) (only-fine t (x .1) (y .1) (z .1))
 
 does-fine : {s : List ℕ} → Fine s → (allOf isPrintable s ≡ true) × (has (ascii "%") s ≡ false) × (has (ascii "//") s ≡ false)
@@ -131,7 +131,7 @@ up-bytes (byte c t p n d f) = by (eqb c slash) refl (up-bytes f)
 -- the first segment is another than this one, and it is none of those behind
 other-first : (x g : List ℕ) (rest : List (List ℕ)) → among x (g ∷ rest) ≡ false → (g ≡ x → ⊥) × (among x rest ≡ false)
 unfolding among
-other-first x g rest e = let h = neither (sameOf g x) (among x rest) e in (λ q. true≢false (sym (equal-same g x q) ∙ h .0), h .1)
+other-first x g rest e = let h = neither (sameOf g x) (among x rest) .0 e in (λ q. true≢false (sym (equal-same g x q) ∙ h .0), h .1)
 
 first-other : (x g : List ℕ) (rest : List (List ℕ)) → (g ≡ x → ⊥) → among x rest ≡ false → among x (g ∷ rest) ≡ false
 unfolding among
@@ -190,9 +190,9 @@ unfolding contentOf isRewritten
 only-clean s e =
     let x = and-eq-true-iff (eqb (getD s 0 0) slash && allOf isPrintable s) (not (isRewritten s)) .0 e in
     let y = and-eq-true-iff (eqb (getD s 0 0) slash) (allOf isPrintable s) .0 (x .0) in
-    let a = neither (has (ascii "%") s || has (ascii "//") s || among (ascii ".") (segments s)) (among (ascii "..") (segments s)) (not-true _ (x .1)) in
-    let b = neither (has (ascii "%") s || has (ascii "//") s) (among (ascii ".") (segments s)) (a .0) in
-    let c = neither (has (ascii "%") s) (has (ascii "//") s) (b .0) in
+    let a = neither (has (ascii "%") s || has (ascii "//") s || among (ascii ".") (segments s)) (among (ascii "..") (segments s)) .0 (not-true _ (x .1)) in
+    let b = neither (has (ascii "%") s || has (ascii "//") s) (among (ascii ".") (segments s)) .0 (a .0) in
+    let c = neither (has (ascii "%") s) (has (ascii "//") s) .0 (b .0) in
     record { whole = sym (path-segments s (y .0)); good = good-path (only-fine s (y .1) (c .0) (c .1)) (y .0) (b .1, a .1) }
 
 -- the path of good segments is fine, and begins with "/"

@@ -1,8 +1,9 @@
--- A path is judged a byte after the other: what is seen behind each byte, in the terms that the code has, and that it comes to document 02's
--- sentence (M-106).
-use mathlib.Core.Path.{_≡_, refl, sym, ap, ap₂, _∙_}
-use mathlib.Core.Bool.{Bool, true, false, _&&_, _||_, or-true, or-false, true≢false}
+-- A path is judged a byte after the other, or many at a time where nothing is near: in the terms that the code has, one law for each way out and
+-- for a turn, and that the second way sees what the first does. That this is document 02's sentence is PathJudged.
+use mathlib.Core.Path.{_≡_, refl, sym, ap, _∙_}
+use mathlib.Core.Bool.{Bool, true, false, _&&_, _||_, or-assoc, or-true, or-false, true≢false}
 use mathlib.Core.List.{List, [], _∷_}
+use mathlib.Mathlib.Data.Bool.Basic.{or-eq-false-eq-eq-false-and-eq-false as neither}
 use Prim.Native.Nat.{ℕ, zero, suc, _+_, _≤_, _<_}
 use native.Mathlib.Numerals.{add-one}
 use native.Mathlib.Omega.{arith}
@@ -69,8 +70,8 @@ pub seen-one : (seen c : ℕ) (t : List ℕ) → (seen ≡ 4 → ⊥) → seenBy
 unfolding seenBy
 seen-one seen c t g = rw (ne-eqb seen 4 g)
 
-front : (s : List ℕ) (i : ℕ) → i < length s → drop i s ≡ getD s i 0 ∷ drop (i + 1) s
-front s i h = rw (drop-cons s i 0 h, add-one)
+pub drop-front : (s : List ℕ) (i : ℕ) → i < length s → drop i s ≡ getD s i 0 ∷ drop (i + 1) s
+drop-front s i h = rw (drop-cons s i 0 h, add-one)
 
 -- byte by byte: what was seen of the first i, and what follows decides
 pub record Seeing (s : List ℕ) (seen so-far i : ℕ) : Type 0 where
@@ -88,7 +89,7 @@ module _ (s : List ℕ) (seen so-far next i : ℕ) (w : Seeing s seen so-far i) 
   behind : seenBy next (drop (i + 1) s) ≡ seenBy seen s
   behind =
       ap (λ (k : ℕ). seenBy k (drop (i + 1) s)) e ∙ sym (seen-one so-far (getD s i 0) (drop (i + 1) s) (w .goes-on))
-      ∙ ap (seenBy so-far) (sym (front s i h)) ∙ w .rest
+      ∙ ap (seenBy so-far) (sym (drop-front s i h)) ∙ w .rest
 
   pub now-refused : next ≡ 4 → 4 ≡ seenBy seen s
   now-refused g = sym (seen-refused (drop (i + 1) s)) ∙ ap (λ (k : ℕ). seenBy k (drop (i + 1) s)) (sym g) ∙ behind
@@ -100,19 +101,10 @@ pub seeing-all : (s : List ℕ) (seen so-far i : ℕ) → Seeing s seen so-far i
 unfolding seenBy
 seeing-all s seen so-far i w h = rw (drop-of-length-le s h) at (w .rest)
 
--- neither of two tests
-pub neither : (a b : Bool) → a || b ≡ false → (a ≡ false) × (b ≡ false)
-neither true b e = absurd (true≢false e)
-neither false b e = (refl, e)
-
 -- many at a time: whether anything was near among the first i
 pub record Nearing (before s : List ℕ) (near : Bool) (i : ℕ) : Type 0 where
   pub inside : i ≤ length s
   pub rest : near || nearBy (drop i before) (drop i s) ≡ nearBy before s
-
-or-assoc : (p q r : Bool) → (p || q) || r ≡ p || (q || r)
-or-assoc true q r = refl
-or-assoc false q r = refl
 
 pub nearing-none : (before s : List ℕ) → Nearing before s false 0
 nearing-none before s = record { inside = omega arith; rest = refl }
@@ -122,7 +114,7 @@ module _ (before s : List ℕ) (near : Bool) (i : ℕ) (w : Nearing before s nea
   unfolding nearBy
   nearing-one next g h e = record {
     inside = omega arith;
-    rest = rw e (or-assoc near _ _ ∙ (rw (front before i g, front s i h) at (w .rest)));
+    rest = rw e (or-assoc near _ _ ∙ (rw (drop-front before i g, drop-front s i h) at (w .rest)));
   }
 
   pub nearing-all : length s ≤ i → near ≡ nearBy before s
@@ -137,8 +129,8 @@ module _ (before s : List ℕ) (near : Bool) (i : ℕ) (w : Nearing before s nea
 far-one : (a c : ℕ) → isNear a c ≡ false → nextSeen (seenBehind a) c ≡ seenBehind c
 unfolding isNear nextSeen isOutside isPrintable
 far-one a c n =
-    let x = neither (ltb c 45 || ltb 126 c) (eqb a slash && (eqb c 46 || eqb c slash)) n in
-    let y = neither (ltb c 45) (ltb 126 c) (x .0) in
+    let x = neither (ltb c 45 || ltb 126 c) (eqb a slash && (eqb c 46 || eqb c slash)) .0 n in
+    let y = neither (ltb c 45) (ltb 126 c) .0 (x .0) in
     let l = ltb-false c 45 (y .0) in
     let h = ltb-false 126 c (y .1) in
     rw (ne-eqb c 37 (λ e. omega (arith, l)), le-leb 33 c (omega (arith, l)), le-leb c 126 h) (by (eqb a slash) (eqb c slash) (eqb c 46) (x .1))
@@ -166,7 +158,7 @@ far-skips zero n a t l h f = refl
 far-skips (suc m) zero a t l h f = let z : ⊥ = omega arith in elim z [ ]
 far-skips (suc m) (suc n) a [] l h f = let z : ⊥ = omega arith in elim z [ ]
 far-skips (suc m) (suc n) a (c ∷ t) l h f =
-    let z = neither (isNear a c) (nearBy (take n (c ∷ t)) (take n t)) f in
+    let z = neither (isNear a c) (nearBy (take n (c ∷ t)) (take n t)) .0 f in
     far-skips m n c t (omega arith) (omega arith) (z .1)
     ∙ sym (seen-one (seenBehind a) c t (behind-goes-on a) ∙ ap (λ (k : ℕ). seenBy k t) (far-one a c (z .0)))
 

@@ -162,14 +162,11 @@ fn change_text(request: &mut Request, seeded: &mut Seeded) {
     match seeded.below(4) {
         0 => request.method = strings::other(&request.method, *b"XY", 16, seeded),
         1 => request.tenant = strings::other_name(&request.tenant, seeded),
-        2 if request.path.len() > 1 => {
-            request.path.truncate(1 + seeded.below(request.path.len()));
-            request.path = strings::cleaned(mem::take(&mut request.path));
-        }
+        2 if request.path.len() > 1 => request.path.truncate(1 + seeded.below(request.path.len())),
         _ => {
             let next = if request.path.ends_with(b"/") { b'x' } else { b'/' };
             request.path.resize((request.path.len() + 1).min(1024), next);
-            request.path = strings::cleaned(mem::take(&mut request.path));
         }
     }
+    request.path = strings::cleaned(mem::take(&mut request.path));
 }

@@ -1,6 +1,7 @@
 //! The samples in examples/: one bundle with two tenants' keys, their requests, tokens that are allowed, and
 //! one token at least for each reason to deny, and the messages of the module's example. Each token stands
-//! with the line that is printed for it. The tokens are made by the proved issue and narrow, but for one that these refuse today.
+//! with the line that is printed for it. The tokens are made by the proved issue and narrow, but for one that
+//! these refuse today.
 
 use second::request::Rate;
 

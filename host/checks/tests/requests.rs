@@ -174,6 +174,8 @@ struct Text {
     longest: usize,
     first: fn(u8) -> bool,
     other: fn(u8) -> bool,
+    /// What is asked of it besides.
+    whole: fn(&[u8]) -> bool,
     put: fn(&mut Request, Vec<u8>),
     /// A byte that may stand anywhere in it, but perhaps first.
     filling: u8,
@@ -196,6 +198,7 @@ const TEXTS_OF_A_REQUEST: [Text; 4] = [
         longest: 16,
         first: |byte| UPPER.contains(&byte),
         other: |byte| UPPER.contains(&byte),
+        whole: |_| true,
         put: |request, text| request.method = text,
         filling: b'M',
     },
@@ -203,6 +206,7 @@ const TEXTS_OF_A_REQUEST: [Text; 4] = [
         longest: 1024,
         first: |byte| byte == b'/',
         other: |byte| (0x21..=0x7e).contains(&byte),
+        whole: comes_through,
         put: |request, text| request.path = text,
         filling: b'p',
     },
@@ -210,6 +214,7 @@ const TEXTS_OF_A_REQUEST: [Text; 4] = [
         longest: 64,
         first: |byte| NAME.contains(&byte),
         other: |byte| NAME.contains(&byte),
+        whole: |_| true,
         put: |request, text| request.tenant = text,
         filling: b't',
     },
@@ -217,6 +222,7 @@ const TEXTS_OF_A_REQUEST: [Text; 4] = [
         longest: 128,
         first: |byte| (0x21..=0x7e).contains(&byte),
         other: |byte| (0x21..=0x7e).contains(&byte),
+        whole: |_| true,
         put: |request, text| request.audience = Some(text),
         filling: b'a',
     },
@@ -269,10 +275,9 @@ fn every_byte_in_each_text() {
                     let mut content = text.filled(length);
                     content[at] = byte;
                     let mut request = any(&mut seeded);
-                    let through = text.filling != b'p' || comes_through(&content);
+                    let good = (if at == 0 { text.first } else { text.other })(byte) && (text.whole)(&content);
                     (text.put)(&mut request, content);
-                    let good = if at == 0 { text.first } else { text.other };
-                    judge(&mut beside, &request.laid(), good(byte) && through);
+                    judge(&mut beside, &request.laid(), good);
                 }
             }
         }

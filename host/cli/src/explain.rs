@@ -64,12 +64,16 @@ fn methods_fault(option: &str, list: &[String]) -> Fault {
 fn path_rule(path: &str, most: usize, form: &'static str) -> &'static str {
     let formed = path.starts_with('/') && path.len() <= most && path.bytes().all(|byte| byte.is_ascii_graphic());
     let segment = |text: &str| path.split('/').any(|segment| segment == text);
-    match path {
-        _ if !formed => form,
-        _ if path.contains('%') => PERCENT,
-        _ if path.contains("//") => SLASHES,
-        _ if segment(".") || segment("..") => DOTS,
-        _ => form,
+    if !formed {
+        form
+    } else if path.contains('%') {
+        PERCENT
+    } else if path.contains("//") {
+        SLASHES
+    } else if segment(".") || segment("..") {
+        DOTS
+    } else {
+        form
     }
 }
 

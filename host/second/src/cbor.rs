@@ -226,13 +226,13 @@ mod tests {
 
     #[test]
     fn a_path_has_nothing_that_proxies_rewrite() {
-        for path in ["/", "/a/", "/.a", "/a.", "/...", "/..a", "/a..", "/a/.b/", "/a/b..", "/.?x", "/-.", "/.../."] {
-            assert_eq!(Class::Path.admits(path.as_bytes()), path != "/.../.", "{path}");
+        for path in ["/", "/a/", "/.a", "/a.", "/...", "/..a", "/a..", "/a/.b/", "/a/b..", "/.?x", "/-."] {
+            assert!(Class::Path.admits(path.as_bytes()), "{path}");
         }
         for path in ["/%", "/a%2e", "//", "/a//", "//a", "/a//b", "/.", "/..", "/./", "/../", "/a/.", "/a/..", "/./a"] {
             assert!(!Class::Path.admits(path.as_bytes()), "{path}");
         }
-        assert!(!Class::Path.admits(b"/a?x=//") && !Class::Path.admits(b"/a/../b"));
+        assert!(!Class::Path.admits(b"/a?x=//") && !Class::Path.admits(b"/a/../b") && !Class::Path.admits(b"/.../."));
         // No other class is touched.
         assert!(Class::Printable.admits(b"%//./..") && Class::Name.admits(b".") && Class::Name.admits(b".."));
     }

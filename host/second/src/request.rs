@@ -215,7 +215,7 @@ mod tests {
     #[test]
     fn what_each_field_refuses() {
         let long: Vec<u8> = b"p/".iter().copied().cycle().take(1025).collect();
-        let over = [b"/", &long[..]].concat();
+        let over = [b"/", &long[..1024]].concat();
         let bad = [
             Fields { skew: 301, ..least() },
             Fields { skew: 0x2c00, ..least() },
