@@ -5,9 +5,8 @@
  *   switch                            the relay has switched
  *   METHOD PATH TENANT BODY TOKEN     a service tool asks; BODY is the new count, or "-" for none
  *
- * Each service message is answered with one line: the count; "refused: " and the reason's name, with the
- * place where the token could not be read; or what is wrong with the message. Before the clock is set none is
- * served, since every expiry would still be to come.
+ * Each service message is answered with one line: the count; "refused: " and the reason's name; or what is
+ * wrong with the message. Before the clock is set none is served, since every expiry would still be to come.
  * `firmware < examples/firmware.in` prints examples/firmware.txt. The status is 0 at the end of the input, or
  * 2 where a line cannot be read or an answer cannot be written; the loop ends there. */
 #include <stdio.h>
@@ -75,7 +74,7 @@ static size_t put_text(size_t at, const char *text, size_t longest)
 /* Asks the library whether the token allows what the message asks for. The module states what it knows
  * itself: the time, its name, how long the body is. Only method, path and tenant are the tool's word, and
  * those are just what the token is held to. */
-static struct bhinorpa_judged judge(const struct message *message)
+static uint32_t judge(const struct message *message)
 {
     size_t at = put_number(0, now, 8);
     at = put_number(at, strcmp(message->body, "-") == 0 ? 0 : strlen(message->body), 8);
@@ -101,26 +100,17 @@ static int read_number(const char *text, uint64_t *number)
     return 1;
 }
 
-/* Says why, and to the bench where the token could not be read. */
-static void refuse(struct bhinorpa_judged judged)
-{
-    printf("refused: %s", bhinorpa_name(judged.answer));
-    if (judged.answer >= BHINORPA_PARSE_B64 && judged.answer <= BHINORPA_SCHEMA_UNKNOWN_FIELD)
-        printf(" at %llu", (unsigned long long)judged.offset);
-    putchar('\n');
-}
-
 /* Does what was asked, once the token allows it; nothing before that. */
 static void serve(const struct message *message)
 {
-    struct bhinorpa_judged judged;
+    uint32_t answer;
     if (!clock_is_set) {
         puts("refused: the clock is not set");
         return;
     }
-    judged = judge(message);
-    if (judged.answer != BHINORPA_ALLOW) {
-        refuse(judged);
+    answer = judge(message);
+    if (answer != BHINORPA_ALLOW) {
+        printf("refused: %s\n", bhinorpa_name(answer));
         return;
     }
     if (strcmp(message->path, count_path) != 0) {

@@ -1,7 +1,7 @@
 /* The gate in front of a relay's counter: `verify TABLE REQUEST TOKEN`, three files, prints "allow" or
- * "deny " and the reason's name, with the place where the token could not be read. One line ending behind the
- * token, as editors and tools leave it in a file, is not taken for a part of it; a second one is. The status is
- * 0 for allow, 1 for deny, 2 where a file cannot be read or the answer cannot be written. */
+ * "deny " and the reason's name. One line ending behind the token, as editors and tools leave it in a file,
+ * is not taken for a part of it; a second one is. The status is 0 for allow, 1 for deny, 2 where a file
+ * cannot be read or the answer cannot be written. */
 #include <errno.h>
 #include <stdio.h>
 #include <string.h>
@@ -49,21 +49,12 @@ static int written_out(void)
     return 0;
 }
 
-/* The line; only what could not be read has a place. */
-static void print_judged(struct bhinorpa_judged judged)
-{
-    printf("%s%s", judged.answer == BHINORPA_ALLOW ? "" : "deny ", bhinorpa_name(judged.answer));
-    if (judged.answer >= BHINORPA_PARSE_B64 && judged.answer <= BHINORPA_SCHEMA_UNKNOWN_FIELD)
-        printf(" at %llu", (unsigned long long)judged.offset);
-    putchar('\n');
-}
-
 int main(int argc, char **argv)
 {
     size_t table_length;
     size_t request_length;
     size_t token_length;
-    struct bhinorpa_judged judged;
+    uint32_t answer;
     if (argc != 4) {
         fputs("usage: verify TABLE REQUEST TOKEN, each a file; TOKEN may end in one newline\n", stderr);
         return 2;
@@ -73,9 +64,9 @@ int main(int argc, char **argv)
         || !read_file(argv[3], token, sizeof token, &token_length))
         return 2;
     token_length = without_line_ending(token, token_length);
-    judged = bhinorpa_verify(table, table_length, request, request_length, token, token_length);
-    print_judged(judged);
+    answer = bhinorpa_verify(table, table_length, request, request_length, token, token_length);
+    printf("%s%s\n", answer == BHINORPA_ALLOW ? "" : "deny ", bhinorpa_name(answer));
     if (!written_out())
         return 2;
-    return judged.answer == BHINORPA_ALLOW ? 0 : 1;
+    return answer == BHINORPA_ALLOW ? 0 : 1;
 }

@@ -185,7 +185,7 @@ static inline const char *bhinorpa_name(uint32_t answer)
 /* How many bytes of stack to have free for a call, its arguments and all that it calls included. These are
  * measured and rounded up, not proved: host/stack/stack.c, which tools/check-c runs, calls each function on
  * a stack filled with one byte, with the longest, the deepest and the most of everything, and looks how far
- * down that byte was overwritten. On x86-64 these were 7,176 bytes for verify, 1,816 for issue, 11,096 for
+ * down that byte was overwritten. On x86-64 these were 7,192 bytes for verify, 1,816 for issue, 11,096 for
  * narrow and 2,264 for the hash. What is not the library's comes on top: an interrupt that runs on the same
  * stack, and a loader that looks for memcpy at its first call only. */
 #define BHINORPA_VERIFY_STACK 8192
@@ -193,29 +193,8 @@ static inline const char *bhinorpa_name(uint32_t answer)
 #define BHINORPA_NARROW_STACK 12288
 #define BHINORPA_KEYED_HASH_STACK 3072
 
-/* Where a reading broke. An answer that says that something could not be read comes with the place of it:
- *
- *   BHINORPA_PARSE_B64                                   a character of the token's text, from 0 on
- *   BHINORPA_PARSE_CBOR, BHINORPA_PARSE_BOUNDS,          a byte of the decoded token, in verify and narrow;
- *   BHINORPA_SCHEMA_UNKNOWN_FIELD                        a byte of the scope that is given, in issue
- *   BHINORPA_CAV_CBOR, BHINORPA_CAV_BOUNDS,              a byte of the caveat that is given
- *   BHINORPA_CAV_UNKNOWN
- *
- * It is the first byte of the item at fault: its head where that, its type, count or length is wrong or its
- * bytes are missing, and for an unknown key, kind or version, a key out of place, a number out of range and
- * an array too deep; the first byte behind the head where a string's content is wrong; the first byte left
- * over; the map's head where a required key is absent. What is missing at the very end is at the length, so
- * look before you index by a place. In the text it is the first character that is no letter; where all are
- * letters, the text's length for a length that no text has, else the last character, whose unused bits are
- * set. With every other answer, and for a text that is too long, the offset is 0. */
-
-struct bhinorpa_judged {
-    uint32_t answer; /* BHINORPA_ALLOW, or the first reason that the token does not allow the request */
-    uint64_t offset; /* where a reading broke; 0 with every other answer */
-};
-
-/* Whether a token allows a request: the answer is BHINORPA_ALLOW, or the first reason that it does not,
- * BHINORPA_TABLE_BAD to BHINORPA_CAVEAT_CUSTOM_UNKNOWN. Grant on 0 and on nothing else.
+/* Whether a token allows a request: BHINORPA_ALLOW, or the first reason that it does not, BHINORPA_TABLE_BAD
+ * to BHINORPA_CAVEAT_CUSTOM_UNKNOWN. Grant on 0 and on nothing else.
  *
  *   table    the key table: its records one behind the other, as they are stored. It may be empty.
  *   request  the request body, made by the firmware for the call at hand.
@@ -235,13 +214,12 @@ struct bhinorpa_judged {
  * The call keeps nothing from one time to the next and only reads the three ranges. It looks at no clock:
  * the time is what the request says, and a rate is compared with the one that the request states, not
  * counted. */
-struct bhinorpa_judged bhinorpa_verify(const uint8_t *table, size_t table_length, const uint8_t *request,
-                                       size_t request_length, const uint8_t *token, size_t token_length);
+uint32_t bhinorpa_verify(const uint8_t *table, size_t table_length, const uint8_t *request,
+                         size_t request_length, const uint8_t *token, size_t token_length);
 
 struct bhinorpa_written {
     uint32_t answer; /* BHINORPA_DONE, or why nothing was written */
     uint32_t length; /* how many characters of text stand at the front of the room; 0 unless done */
-    uint64_t offset; /* where a reading broke; 0 with every other answer */
 };
 
 /* Makes a token that has no caveats yet, and writes its text to the front of the room.

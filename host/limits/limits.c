@@ -131,7 +131,7 @@ static void put_request(const struct parts *parts)
 static uint32_t judged(struct parts parts, const uint8_t *text, size_t length)
 {
     put_request(&parts);
-    return bhinorpa_verify(table.at, table.length, request.at, request.length, text, length).answer;
+    return bhinorpa_verify(table.at, table.length, request.at, request.length, text, length);
 }
 
 static int refused(struct parts parts, const char *what)
@@ -242,50 +242,6 @@ static void put_line(struct bytes *lines, uint32_t answer)
     put_text(lines, "\n");
 }
 
-/* The answer and the place that a text has by the longest request. */
-static int broke(struct bhinorpa_judged judged, uint32_t answer, uint64_t offset)
-{
-    return judged.answer == answer && judged.offset == offset;
-}
-
-static int of_text(uint64_t place)
-{
-    static uint8_t text[BHINORPA_TEXT_MAX];
-    memcpy(text, token.at, token.length);
-    text[place] = '=';
-    return broke(bhinorpa_verify(table.at, table.length, request.at, request.length, text, token.length),
-                 BHINORPA_PARSE_B64, place);
-}
-
-/* A scope and a caveat with a byte behind them, and a text that is cut behind the token's first head. */
-static int of_places(void)
-{
-    static uint8_t room[BHINORPA_TEXT_MAX];
-    struct bhinorpa_written written;
-    int good = held(sizeof(struct bhinorpa_judged) == 16 && sizeof(struct bhinorpa_written) == 16,
-                    "what is returned has 16 bytes");
-    put_request(&longest);
-    good &= held(of_text(0) && of_text(2) && of_text(token.length - 1),
-                 "BHINORPA_PARSE_B64 has the character's place");
-    good &= held(broke(bhinorpa_verify(table.at, table.length, request.at, request.length, BYTES("pg")),
-                       BHINORPA_PARSE_CBOR, 1),
-                 "what is missing has the token's length for its place");
-    scope.at[scope.length] = 0;
-    written = bhinorpa_issue(table.at, table.length, table.at + 5, BHINORPA_ID_MAX,
-                             table.at + 6 + BHINORPA_ID_MAX, BHINORPA_ID_MAX, scope.at, scope.length + 1, room,
-                             sizeof room);
-    good &= held(written.answer == BHINORPA_PARSE_CBOR && written.length == 0 && written.offset == scope.length,
-                 "a byte behind a scope has its place in the scope's bytes");
-    written = bhinorpa_narrow(table.at, table.length, token.at, token.length,
-                              BYTES("\xa2\x61t\x67" "amnesia" "\x61v\xf5\xf5"), room, sizeof room);
-    good &= held(written.answer == BHINORPA_CAV_CBOR && written.length == 0 && written.offset == 14,
-                 "a byte behind a caveat has its place in the caveat's bytes");
-    good &= held(broke(bhinorpa_verify(table.at, 0, request.at, request.length, token.at, token.length),
-                       BHINORPA_KID_UNKNOWN, 0),
-                 "other answers have the place 0");
-    return good;
-}
-
 static int of_bundles(const char *folder)
 {
     static struct bytes bundle, wanted, lines;
@@ -303,7 +259,7 @@ static int of_bundles(const char *folder)
             asked.at = bundle.at + at, asked.length = length;
         if (kind == BHINORPA_KIND_TOKEN)
             put_line(&lines, bhinorpa_verify(keys.at, keys.length, asked.at, asked.length, bundle.at + at,
-                                             length).answer);
+                                             length));
         at += length;
     }
     return held(at == bundle.length && lines.length == wanted.length
@@ -322,7 +278,6 @@ int main(int argc, char **argv)
     good = of_tables();
     good &= of_requests();
     good &= of_flags();
-    good &= of_places();
     good &= of_hashes();
     good &= of_samples(argv[1]);
     good &= of_bundles(argv[1]);

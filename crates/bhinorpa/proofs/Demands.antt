@@ -1,6 +1,6 @@
 -- Every statement of specs/Demands.antt with its proof, in the order of the page.
 use Rattle.bhinorpa.specs.Demands.{VerifyList, IssueList, NarrowList, RefusalWritesNothing}
-use Rattle.bhinorpa.specs.Demands.{AllowedExactly, FirstFailing, VerdictOne, DefectNoToken, PlaceInside}
+use Rattle.bhinorpa.specs.Demands.{AllowedExactly, FirstFailing, VerdictOne, DefectNoToken}
 use Rattle.bhinorpa.specs.Demands.{IssueFirstFailing, IssueVerdictOne, IdsOfRows, IssueRefusals, NarrowFirstFailing, NarrowVerdictOne}
 use Rattle.bhinorpa.specs.Demands.{IssueWrites, NarrowWrites, Rebuilt, RoomEnough, NarrowingExact, NarrowingRefusals, FirstBits, NoPeer, FitsExactly, FitsNarrows}
 use Rattle.bhinorpa.specs.Demands.{CleanExactly, FitsSegments}
@@ -9,7 +9,6 @@ use Rattle.rules_compare.proofs.FittingLaws as fitting
 use Rattle.rules_compare.proofs.SegmentLaws as segments
 use Rattle.bhinorpa.proofs.Rooms as rooms
 use Rattle.bhinorpa.proofs.Texts as texts
-use Rattle.bhinorpa.proofs.Places as places
 use Rattle.bhinorpa.proofs.DemandsVerify as verify
 use Rattle.bhinorpa.proofs.DemandsIssue as issue
 use Rattle.bhinorpa.proofs.DemandsNarrow as narrow
@@ -31,7 +30,6 @@ pub record Demands : Type 0 where
   pub issue_refusals : IssueRefusals
   pub narrow_first_failing : NarrowFirstFailing
   pub narrow_verdict_one : NarrowVerdictOne
-  pub place_inside : PlaceInside
   pub issue_writes : IssueWrites
   pub narrow_writes : NarrowWrites
   pub rebuilt : Rebuilt
@@ -61,7 +59,6 @@ demands = record {
   issue_refusals = issue.issue_refusals;
   narrow_first_failing = narrow.narrow_first_failing;
   narrow_verdict_one = narrow.narrow_verdict_one;
-  place_inside = places.place_inside;
   issue_writes = issue.issue_writes;
   narrow_writes = narrow.narrow_writes;
   rebuilt = rebuilding.rebuilt;

@@ -32,17 +32,17 @@ issue_first_failing table tid kid bytes bt bb entry outcome exit w = by_table (t
     h = issue_of table tid kid bytes
 
     by_row : (rows : List Row) → EncodesTable table rows → (scope : Scope) → EncodesScope bytes scope → (b : Bool) → has_row rows tid kid ≡ b → IssueVerdict table tid kid bytes entry outcome exit
-    by_row rows t scope s false k = issue_kid_unknown rows t scope s k (refuses h entry outcome exit 7 0 (issue_unknown table tid kid bytes rows t scope s k) w)
+    by_row rows t scope s false k = issue_kid_unknown rows t scope s k (refuses h entry outcome exit 7 (issue_unknown table tid kid bytes rows t scope s k) w)
     by_row rows t scope s true k =
         let g : Grant table tid kid bytes rows scope = record { table_is = t; scope_is = s; known = k } in
         issue_grants rows scope g (in_room h entry outcome exit (token_text (fresh_token rows scope tid kid)) (issue_granted table tid kid bytes rows scope g) w)
 
     by_scope : (rows : List Row) → EncodesTable table rows → ScopeIs bytes → IssueVerdict table tid kid bytes entry outcome exit
-    by_scope rows t (no_scope n at d) = issue_scope_bad rows t n at d (refuses h entry outcome exit n at (issue_defect table tid kid bytes rows t n at d) w)
+    by_scope rows t (no_scope n d) = issue_scope_bad rows t n d (refuses h entry outcome exit n (issue_defect table tid kid bytes rows t n d) w)
     by_scope rows t (one_scope scope s) = by_row rows t scope s (has_row rows tid kid) refl
 
     by_table : TableIs table → IssueVerdict table tid kid bytes entry outcome exit
-    by_table (no_table x) = issue_table_bad x (refuses h entry outcome exit 1 0 (issue_no_table table tid kid bytes bt x) w)
+    by_table (no_table x) = issue_table_bad x (refuses h entry outcome exit 1 (issue_no_table table tid kid bytes bt x) w)
     by_table (one_table rows t) = by_scope rows t (scope_is bytes bb)
 
 -- a verdict is what the contract says
@@ -51,9 +51,9 @@ module _ (table tid kid bytes : List ℕ) (bt : IsBytes table) (entry : List ℕ
   out = issue_of table tid kid bytes
 
   verdict_is : IssueVerdict table tid kid bytes entry outcome exit → Carried (issue_of table tid kid bytes) entry outcome exit
-  verdict_is (issue_table_bad h r) = refuses_back out entry outcome exit 1 0 (issue_no_table table tid kid bytes bt h) r
-  verdict_is (issue_scope_bad rows t n at d r) = refuses_back out entry outcome exit n at (issue_defect table tid kid bytes rows t n at d) r
-  verdict_is (issue_kid_unknown rows t scope s k r) = refuses_back out entry outcome exit 7 0 (issue_unknown table tid kid bytes rows t scope s k) r
+  verdict_is (issue_table_bad h r) = refuses_back out entry outcome exit 1 (issue_no_table table tid kid bytes bt h) r
+  verdict_is (issue_scope_bad rows t n d r) = refuses_back out entry outcome exit n (issue_defect table tid kid bytes rows t n d) r
+  verdict_is (issue_kid_unknown rows t scope s k r) = refuses_back out entry outcome exit 7 (issue_unknown table tid kid bytes rows t scope s k) r
   verdict_is (issue_grants rows scope g o) = in_room_back out entry outcome exit (token_text (fresh_token rows scope tid kid)) (issue_granted table tid kid bytes rows scope g) o
 
 pub issue_verdict_one : IssueVerdictOne
@@ -66,7 +66,7 @@ issue_list table tid kid bytes bt bb entry outcome exit w = by (issue_first_fail
   where
     by : IssueVerdict table tid kid bytes entry outcome exit → one_of issue_answers outcome.answer ≡ true
     by (issue_table_bad h r) = rw r.answer
-    by (issue_scope_bad rows t n at d r) = let k = scope_few bytes n at d in rw r.answer (listed (one_of issue_answers) 4 refl n k.0 k.1)
+    by (issue_scope_bad rows t n d r) = let k = scope_few bytes n d in rw r.answer (listed (one_of issue_answers) 4 refl n k.0 k.1)
     by (issue_kid_unknown rows t scope s k r) = rw r.answer
     by (issue_grants rows scope g (done l r)) = rw r.answer
     by (issue_grants rows scope g (out_short l r)) = rw r.answer
@@ -87,7 +87,7 @@ issue_writes table tid kid bytes bt bi bk bb entry outcome exit w z = by (issue_
   where
     by : IssueVerdict table tid kid bytes entry outcome exit → Issued table tid kid bytes entry outcome exit
     by (issue_table_bad h r) = let x : ⊥ = omega (arith, r.answer, z) in elim x [ ]
-    by (issue_scope_bad rows t n at d r) = let x : ⊥ = omega (arith, r.answer, z, (scope_few bytes n at d).0) in elim x [ ]
+    by (issue_scope_bad rows t n d r) = let x : ⊥ = omega (arith, r.answer, z, (scope_few bytes n d).0) in elim x [ ]
     by (issue_kid_unknown rows t scope s k r) = let x : ⊥ = omega (arith, r.answer, z) in elim x [ ]
     by (issue_grants rows scope g o) =
         let c = fresh_canonical rows g.table_is.good scope g.scope_is.good (subst IsBytes g.scope_is.written bb) tid kid bi bk g.known in

@@ -43,7 +43,7 @@ module _ (table text bytes : List ℕ) (bt : IsBytes table) (bb : IsBytes bytes)
     by_size : (added : Caveat) → EncodesCaveat bytes added → length token.caveats < 64 → (b : Bool) → ltb 4096 (length (encode_token (child_token rows token added))) ≡ b → Is
     by_size added a l true q =
         let g = ltb-true 4096 (length (encode_token (child_token rows token added))) q in
-        narrow_size_full rows token p added a l g (refuses h entry outcome exit 35 0 (narrow_too_large table text bytes rows token p added a l g) w)
+        narrow_size_full rows token p added a l g (refuses h entry outcome exit 35 (narrow_too_large table text bytes rows token p added a l g) w)
     by_size added a l false q =
         let g = ltb-false 4096 (length (encode_token (child_token rows token added))) q in
         narrow_child rows token p added a l g
@@ -52,12 +52,12 @@ module _ (table text bytes : List ℕ) (bt : IsBytes table) (bb : IsBytes bytes)
     by_count : (added : Caveat) → EncodesCaveat bytes added → (b : Bool) → eqb (length token.caveats) 64 ≡ b → Is
     by_count added a true q =
         let f = eqb-true (length token.caveats) 64 q in
-        narrow_full rows token p added a f (refuses h entry outcome exit 34 0 (narrow_is_full table text bytes rows token p added a f) w)
+        narrow_full rows token p added a f (refuses h entry outcome exit 34 (narrow_is_full table text bytes rows token p added a f) w)
     by_count added a false q =
         by_size added a (omega (arith, eqb-false (length token.caveats) 64 q, p.canonical.good.few)) (ltb 4096 (length (encode_token (child_token rows token added)))) refl
 
     by_caveat : CaveatIs bytes → Is
-    by_caveat (no_caveat n at d) = narrow_caveat_bad rows token p n at d (refuses h entry outcome exit (n + 27) at (narrow_caveat_defect table text bytes rows token p n at d) w)
+    by_caveat (no_caveat n d) = narrow_caveat_bad rows token p n d (refuses h entry outcome exit (n + 27) (narrow_caveat_defect table text bytes rows token p n d) w)
     by_caveat (one_caveat added a) = by_count added a (eqb (length token.caveats) 64) refl
 
   module _ (rows : List Row) (t : EncodesTable table rows) (token : Token) (c : Canonical text token) where
@@ -71,18 +71,18 @@ module _ (table text bytes : List ℕ) (bt : IsBytes table) (bb : IsBytes bytes)
     by_tag k true s =
         by_caveat rows token (record { table_is = t; canonical = c; known = k; tagged = same_equal link token.tag s }) (caveat_is bytes bb)
     by_tag k false s =
-        narrow_mac rows t token c k (unequal s) (refuses h entry outcome exit 8 0 (narrow_other_tag table text bytes rows t token c k (unequal s)) w)
+        narrow_mac rows t token c k (unequal s) (refuses h entry outcome exit 8 (narrow_other_tag table text bytes rows t token c k (unequal s)) w)
 
     by_row : (b : Bool) → has_row rows token.tid token.kid ≡ b → Is
     by_row true k = by_tag k (same_of link token.tag) refl
-    by_row false k = narrow_kid_unknown rows t token c k (refuses h entry outcome exit 7 0 (narrow_unknown table text bytes rows t token c k) w)
+    by_row false k = narrow_kid_unknown rows t token c k (refuses h entry outcome exit 7 (narrow_unknown table text bytes rows t token c k) w)
 
   by_text : (rows : List Row) → EncodesTable table rows → TextIs text → Is
-  by_text rows t (no_token n at d) = narrow_no_token rows t n at d (refuses h entry outcome exit n at (narrow_defect table text bytes rows t n at d) w)
+  by_text rows t (no_token n d) = narrow_no_token rows t n d (refuses h entry outcome exit n (narrow_defect table text bytes rows t n d) w)
   by_text rows t (one_token token c) = by_row rows t token c (has_row rows token.tid token.kid) refl
 
   by_table : TableIs table → Is
-  by_table (no_table x) = narrow_table_bad x (refuses h entry outcome exit 1 0 (narrow_no_table table text bytes bt x) w)
+  by_table (no_table x) = narrow_table_bad x (refuses h entry outcome exit 1 (narrow_no_table table text bytes bt x) w)
   by_table (one_table rows t) = by_text rows t (text_is text)
 
 pub narrow_first_failing : NarrowFirstFailing
@@ -94,13 +94,13 @@ module _ (table text bytes : List ℕ) (bt : IsBytes table) (entry : List ℕ) (
   out = narrow_of table text bytes
 
   verdict_is : NarrowVerdict table text bytes entry outcome exit → Carried (narrow_of table text bytes) entry outcome exit
-  verdict_is (narrow_table_bad h r) = refuses_back out entry outcome exit 1 0 (narrow_no_table table text bytes bt h) r
-  verdict_is (narrow_no_token rows t n at d r) = refuses_back out entry outcome exit n at (narrow_defect table text bytes rows t n at d) r
-  verdict_is (narrow_kid_unknown rows t token c k r) = refuses_back out entry outcome exit 7 0 (narrow_unknown table text bytes rows t token c k) r
-  verdict_is (narrow_mac rows t token c k d r) = refuses_back out entry outcome exit 8 0 (narrow_other_tag table text bytes rows t token c k d) r
-  verdict_is (narrow_caveat_bad rows token p n at d r) = refuses_back out entry outcome exit (n + 27) at (narrow_caveat_defect table text bytes rows token p n at d) r
-  verdict_is (narrow_full rows token p added a f r) = refuses_back out entry outcome exit 34 0 (narrow_is_full table text bytes rows token p added a f) r
-  verdict_is (narrow_size_full rows token p added a l g r) = refuses_back out entry outcome exit 35 0 (narrow_too_large table text bytes rows token p added a l g) r
+  verdict_is (narrow_table_bad h r) = refuses_back out entry outcome exit 1 (narrow_no_table table text bytes bt h) r
+  verdict_is (narrow_no_token rows t n d r) = refuses_back out entry outcome exit n (narrow_defect table text bytes rows t n d) r
+  verdict_is (narrow_kid_unknown rows t token c k r) = refuses_back out entry outcome exit 7 (narrow_unknown table text bytes rows t token c k) r
+  verdict_is (narrow_mac rows t token c k d r) = refuses_back out entry outcome exit 8 (narrow_other_tag table text bytes rows t token c k d) r
+  verdict_is (narrow_caveat_bad rows token p n d r) = refuses_back out entry outcome exit (n + 27) (narrow_caveat_defect table text bytes rows token p n d) r
+  verdict_is (narrow_full rows token p added a f r) = refuses_back out entry outcome exit 34 (narrow_is_full table text bytes rows token p added a f) r
+  verdict_is (narrow_size_full rows token p added a l g r) = refuses_back out entry outcome exit 35 (narrow_too_large table text bytes rows token p added a l g) r
   verdict_is (narrow_child rows token p added a l g o) =
       in_room_back out entry outcome exit (token_text (child_token rows token added)) (narrow_granted table text bytes rows token p added a l g) o
 
@@ -114,10 +114,10 @@ narrow_list table text bytes bt bb entry outcome exit w = by (narrow_first_faili
   where
     by : NarrowVerdict table text bytes entry outcome exit → one_of narrow_answers outcome.answer ≡ true
     by (narrow_table_bad h r) = rw r.answer
-    by (narrow_no_token rows t n at d r) = let k = defect_few text n at d in rw r.answer (listed (one_of narrow_answers) 3 refl n k.0 k.1)
+    by (narrow_no_token rows t n d r) = let k = defect_few text n d in rw r.answer (listed (one_of narrow_answers) 3 refl n k.0 k.1)
     by (narrow_kid_unknown rows t token c k r) = rw r.answer
     by (narrow_mac rows t token c k d r) = rw r.answer
-    by (narrow_caveat_bad rows token p n at d r) = let k = caveat_few bytes n at d in rw r.answer (listed (λ n. one_of narrow_answers (n + 27)) 4 refl n k.0 k.1)
+    by (narrow_caveat_bad rows token p n d r) = let k = caveat_few bytes n d in rw r.answer (listed (λ n. one_of narrow_answers (n + 27)) 4 refl n k.0 k.1)
     by (narrow_full rows token p added a f r) = rw r.answer
     by (narrow_size_full rows token p added a l g r) = rw r.answer
     by (narrow_child rows token p added a l g (done m r)) = rw r.answer
@@ -142,10 +142,10 @@ child_of table text bytes bt bb entry outcome exit w z = by (narrow_first_failin
 
     by : NarrowVerdict table text bytes entry outcome exit → Child table text bytes entry outcome exit
     by (narrow_table_bad h r) = refused_not 1 r.answer (omega arith)
-    by (narrow_no_token rows t n at d r) = refused_not n r.answer (omega (arith, (defect_few text n at d).0))
+    by (narrow_no_token rows t n d r) = refused_not n r.answer (omega (arith, (defect_few text n d).0))
     by (narrow_kid_unknown rows t token c k r) = refused_not 7 r.answer (omega arith)
     by (narrow_mac rows t token c k d r) = refused_not 8 r.answer (omega arith)
-    by (narrow_caveat_bad rows token p n at d r) = refused_not (n + 27) r.answer (omega arith)
+    by (narrow_caveat_bad rows token p n d r) = refused_not (n + 27) r.answer (omega arith)
     by (narrow_full rows token p added a f r) = refused_not 34 r.answer (omega arith)
     by (narrow_size_full rows token p added a l g r) = refused_not 35 r.answer (omega arith)
     by (narrow_child rows token p added a l g o) =

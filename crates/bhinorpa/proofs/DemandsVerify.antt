@@ -17,7 +17,6 @@ use Rattle.records_request.specs.Requests.{Request}
 use Rattle.rules.specs.Holding.{failing, caveat_holds}
 use Rattle.rules.proofs.Meanings as meanings
 use Rattle.verify.specs.Verifying.{verify_of}
-use Rattle.verify.specs.declared.Finding.{Finding}
 use Rattle.verify.proofs.Numbers.{verify_low}
 use Rattle.bhinorpa.specs.Allowed.{EncodesTable, EncodesRequest, chain_tag, key_for, method_holds, path_holds, bytes_hold, failing_first, caveat_checks, scope_checks, checks_of, EachHolds, AllHold, Allowed}
 use Rattle.bhinorpa.specs.Verdicts.{Verdict, table_bad, ctx_bad, no_token, judged, one_of, verify_answers}
@@ -29,13 +28,13 @@ use Rattle.bhinorpa.proofs.VerifyIs.{verify_no_table, verify_no_request, verify_
 
 pub verify_list : VerifyList
 unfolding all one_of
-verify_list table request text = all_at 22 (one_of verify_answers) refl (verify_of table request text).answer (verify_low table request text)
+verify_list table request text = all_at 22 (one_of verify_answers) refl (verify_of table request text) (verify_low table request text)
 
 pub first_failing : FirstFailing
 first_failing table request text bt br = by_table (table_is table bt)
   where
     by_text : (rows : List Row) → EncodesTable table rows → (asked : Request) → EncodesRequest request asked → TextIs text → Verdict table request text (verify_of table request text)
-    by_text rows t asked r (text_defect n at d) = let e = verify_defect table request rows t asked r text n at d in rw e (no_token rows t asked r d)
+    by_text rows t asked r (text_defect n d) = let e = verify_defect table request rows t asked r text n d in rw e (no_token rows t asked r d)
     by_text rows t asked r (one_token token c) = judged rows t asked r token c (verify_token table request rows t asked r text token c)
 
     by_request : (rows : List Row) → EncodesTable table rows → RequestIs request → Verdict table request text (verify_of table request text)
@@ -46,15 +45,15 @@ first_failing table request text bt br = by_table (table_is table bt)
     by_table (no_table h) = table_bad h (verify_no_table table request text (bad_table table bt h))
     by_table (one_table rows t) = by_request rows t (request_is request br)
 
--- a verdict's number and place are verify's
-verdict_is : (table request text : List ℕ) → IsBytes table → IsBytes request → (found : Finding) → Verdict table request text found → found ≡ verify_of table request text
-verdict_is table request text bt br found (table_bad h e) = e ∙ sym (verify_no_table table request text (bad_table table bt h))
-verdict_is table request text bt br found (ctx_bad rows t h e) = e ∙ sym (verify_no_request table request text (good_table table rows t) (bad_request request br h))
-verdict_is table request text bt br found (no_token rows t asked r d) = sym (verify_defect table request rows t asked r text found.answer found.offset d)
-verdict_is table request text bt br found (judged rows t asked r token c e) = e ∙ sym (verify_token table request rows t asked r text token c)
+-- a verdict's number is verify's
+verdict_is : (table request text : List ℕ) → IsBytes table → IsBytes request → (n : ℕ) → Verdict table request text n → n ≡ verify_of table request text
+verdict_is table request text bt br n (table_bad h e) = e ∙ sym (verify_no_table table request text (bad_table table bt h))
+verdict_is table request text bt br n (ctx_bad rows t h e) = e ∙ sym (verify_no_request table request text (good_table table rows t) (bad_request request br h))
+verdict_is table request text bt br n (no_token rows t asked r d) = sym (verify_defect table request rows t asked r text n d)
+verdict_is table request text bt br n (judged rows t asked r token c e) = e ∙ sym (verify_token table request rows t asked r text token c)
 
 pub verdict_one : VerdictOne
-verdict_one table request text bt br first second v w = verdict_is table request text bt br first v ∙ sym (verdict_is table request text bt br second w)
+verdict_one table request text bt br n m v w = verdict_is table request text bt br n v ∙ sym (verdict_is table request text bt br m w)
 
 -- a check that holds
 passed : (b : Bool) (n rest : ℕ) → eqb n 0 ≡ false → pick b rest n ≡ 0 → (b ≡ true) × (rest ≡ 0)
@@ -110,16 +109,11 @@ all_pass rows asked token a =
     (each_passes asked token.tid token.caveats a.caveats_hold)
 
 pub allowed_exactly : AllowedExactly
-allowed_exactly table request text rows t asked r = (λ e. by e (text_is text), λ a. answered (verify_token table request rows t asked r text a.token a.canonical) ∙ all_pass rows asked a.token a.all_hold)
+allowed_exactly table request text rows t asked r = (λ e. by e (text_is text), λ a. verify_token table request rows t asked r text a.token a.canonical ∙ all_pass rows asked a.token a.all_hold)
   where
-    answered : {found : Finding} → verify_of table request text ≡ found → (verify_of table request text).answer ≡ found.answer
-    answered = ap (λ (f : Finding). f.answer)
-
-    by : (verify_of table request text).answer ≡ 0 → TextIs text → Allowed rows asked text
-    by e (text_defect n at d) =
-        let z : ⊥ = omega (arith, sym (answered (verify_defect table request rows t asked r text n at d)) ∙ e, (defect_few text n at d).0) in
-        elim z [ ]
-    by e (one_token token c) = record { token = token; canonical = c; all_hold = all_passed rows asked token (sym (answered (verify_token table request rows t asked r text token c)) ∙ e) }
+    by : verify_of table request text ≡ 0 → TextIs text → Allowed rows asked text
+    by e (text_defect n d) = let z : ⊥ = omega (arith, sym (verify_defect table request rows t asked r text n d) ∙ e, (defect_few text n d).0) in elim z [ ]
+    by e (one_token token c) = record { token = token; canonical = c; all_hold = all_passed rows asked token (sym (verify_token table request rows t asked r text token c) ∙ e) }
 
 pub first_bits : FirstBits
 first_bits = meanings.first_bits

@@ -14,7 +14,7 @@ use Rattle.token.proofs.WritingLaws.{fresh_written}
 use Rattle.records_table.specs.Tables.{Row, encode_table, has_row, key_in}
 use Rattle.records_table.specs.Reading.{find_from}
 use Rattle.records_table.proofs.TableLaws.{find_finds, key_of_row}
-use Rattle.outcome.specs.Decisions.{refused, refused_at, granted}
+use Rattle.outcome.specs.Decisions.{refused, granted}
 use Rattle.issue.specs.Issuing.{issue_with, issue_of}
 use Rattle.issue.proofs.Fresh.{issue_bad_table, issue_bad_scope, issue_left_over, issue_found}
 use Rattle.bhinorpa.specs.Allowed.{EncodesTable, token_text}
@@ -28,11 +28,11 @@ module _ (table tid kid bytes : List ℕ) where
   issue_no_table b h = sym (issue_bad_table table tid kid bytes (bad_table table b h))
 
   module _ (rows : List Row) (t : EncodesTable table rows) where
-    pub issue_defect : (n at : ℕ) → ScopeDefect bytes n at → issue_of table tid kid bytes ≡ refused_at n at
-    issue_defect n at (scope_unreadable e) = sym (issue_bad_scope table tid kid bytes (good_table table rows t) (defect_scope bytes 0 e))
-    issue_defect n at (scope_left_over scope g rest e h z p) =
+    pub issue_defect : (n : ℕ) → ScopeDefect bytes n → issue_of table tid kid bytes ≡ refused n
+    issue_defect n (scope_unreadable at e) = sym (issue_bad_scope table tid kid bytes (good_table table rows t) (defect_scope bytes 0 e))
+    issue_defect n (scope_left_over scope g rest e h z) =
         let w = scope_written scope g bytes rest 0 e in
-        sym (issue_left_over table tid kid bytes (good_table table rows t) w.answer (λ l. all_left bytes (encode_scope scope) rest e h (omega (arith, l)))) ∙ ap₂ refused_at (sym z) (omega (arith, p))
+        sym (issue_left_over table tid kid bytes (good_table table rows t) w.answer (λ l. all_left bytes (encode_scope scope) rest e h (omega (arith, l)))) ∙ ap refused (sym z)
 
     found : (scope : Scope) → issue_with (find_from 64 (encode_table rows) tid kid 0) tid kid (encode_scope scope)
         ≡ pick (has_row rows tid kid) (granted (token_text (fresh_token rows scope tid kid))) (refused 7)

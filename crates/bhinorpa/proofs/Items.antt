@@ -34,7 +34,7 @@ whole : (bytes item rest : List ℕ) → bytes ≡ item ++ rest → rest ≡ [] 
 whole bytes item rest e z = e ∙ ap (λ (t : List ℕ). item ++ t) z ∙ append-nil item
 
 pub data ScopeIs (bytes : List ℕ) : Type 0 where
-  no_scope : (n at : ℕ) → ScopeDefect bytes n at → ScopeIs bytes
+  no_scope : (n : ℕ) → ScopeDefect bytes n → ScopeIs bytes
   one_scope : (scope : Scope) → EncodesScope bytes scope → ScopeIs bytes
 
 pub scope_is : (bytes : List ℕ) → IsBytes bytes → ScopeIs bytes
@@ -42,14 +42,14 @@ scope_is bytes b = by (scope_of bytes 0) refl
   where
     by_rest : (scope : Scope) → GoodScope scope → (rest : List ℕ) → bytes ≡ encode_scope scope ++ rest → ScopeIs bytes
     by_rest scope g [] e = one_scope scope (record { good = g; written = whole bytes (encode_scope scope) [] e refl })
-    by_rest scope g (x ∷ rest) e = no_scope 4 (length (encode_scope scope)) (scope_left_over scope g (x ∷ rest) e (λ z. omega (arith, ap length z)) refl refl)
+    by_rest scope g (x ∷ rest) e = no_scope 4 (scope_left_over scope g (x ∷ rest) e (λ z. omega (arith, ap length z)) refl)
 
     by : (p : ScopeParts) → scope_of bytes 0 ≡ p → ScopeIs bytes
-    by (NoScope n at) e = no_scope n at (scope_unreadable (scope_defect bytes 0 e))
+    by (NoScope n at) e = no_scope n (scope_unreadable at (scope_defect bytes 0 e))
     by (ScopeFound parts next) e = let r = scope_read bytes b 0 e in by_rest r.tree r.good (drop next bytes) r.there
 
 pub data CaveatIs (bytes : List ℕ) : Type 0 where
-  no_caveat : (n at : ℕ) → CaveatDefect bytes n at → CaveatIs bytes
+  no_caveat : (n : ℕ) → CaveatDefect bytes n → CaveatIs bytes
   one_caveat : (caveat : Caveat) → EncodesCaveat bytes caveat → CaveatIs bytes
 
 pub caveat_is : (bytes : List ℕ) → IsBytes bytes → CaveatIs bytes
@@ -57,17 +57,17 @@ caveat_is bytes b = by (caveat_of bytes) refl
   where
     by_rest : (caveat : Caveat) → GoodCaveat caveat → (rest : List ℕ) → bytes ≡ encode_caveat caveat ++ rest → CaveatIs bytes
     by_rest caveat g [] e = one_caveat caveat (record { good = g; written = whole bytes (encode_caveat caveat) [] e refl })
-    by_rest caveat g (x ∷ rest) e = no_caveat 4 (length (encode_caveat caveat)) (caveat_left_over caveat g (x ∷ rest) e (λ z. omega (arith, ap length z)) refl refl)
+    by_rest caveat g (x ∷ rest) e = no_caveat 4 (caveat_left_over caveat g (x ∷ rest) e (λ z. omega (arith, ap length z)) refl)
 
     by : (p : CaveatParts) → caveat_of bytes ≡ p → CaveatIs bytes
-    by (NoCaveat n at) e = no_caveat n at (caveat_unreadable (caveat_defect bytes e))
+    by (NoCaveat n at) e = no_caveat n (caveat_unreadable at (caveat_defect bytes e))
     by (CaveatFound part next) e = let r = caveat_read bytes b e in by_rest r.tree r.good (drop next bytes) r.there
 
 -- a defect's number is 4, 5 or 6
-pub scope_few : (bytes : List ℕ) (n at : ℕ) → ScopeDefect bytes n at → (4 ≤ n) × (n ≤ 6)
-scope_few bytes n at (scope_unreadable e) = scope_kind bytes 0 (defect_scope bytes 0 e)
-scope_few bytes n at (scope_left_over scope g rest e h z p) = (omega (arith, z), omega (arith, z))
+pub scope_few : (bytes : List ℕ) (n : ℕ) → ScopeDefect bytes n → (4 ≤ n) × (n ≤ 6)
+scope_few bytes n (scope_unreadable at e) = scope_kind bytes 0 (defect_scope bytes 0 e)
+scope_few bytes n (scope_left_over scope g rest e h z) = (omega (arith, z), omega (arith, z))
 
-pub caveat_few : (bytes : List ℕ) (n at : ℕ) → CaveatDefect bytes n at → (4 ≤ n) × (n ≤ 6)
-caveat_few bytes n at (caveat_unreadable e) = caveat_kind bytes (defect_caveat bytes e)
-caveat_few bytes n at (caveat_left_over caveat g rest e h z p) = (omega (arith, z), omega (arith, z))
+pub caveat_few : (bytes : List ℕ) (n : ℕ) → CaveatDefect bytes n → (4 ≤ n) × (n ≤ 6)
+caveat_few bytes n (caveat_unreadable at e) = caveat_kind bytes (defect_caveat bytes e)
+caveat_few bytes n (caveat_left_over caveat g rest e h z) = (omega (arith, z), omega (arith, z))

@@ -28,7 +28,6 @@ use Rattle.rules.specs.Holding.{failing, caveat_holds, scope_answer, caveat_answ
 use Rattle.rules.proofs.RuleLaws.{scope_law, caveat_law}
 use Rattle.verify_walk.specs.Walking.{so_far, walk_ends, over_caveats, walk_bad, walk_add, walked_of, scope_answered, tenant_judged, tag_judged, key_judged}
 use Rattle.verify_walk.specs.declared.Walked.{Walked}
-use Rattle.verify.specs.Findings.{plain}
 use Rattle.verify.specs.Verifying.{key_found, token_judged, bytes_judged}
 use Rattle.bhinorpa.specs.Allowed.{caveat_bytes, chain_tag, key_for, method_holds, path_holds, bytes_hold, failing_first, caveat_checks, scope_checks, checks_of}
 use Rattle.bhinorpa.proofs.Walks.{Lies, over_law}
@@ -150,7 +149,7 @@ module _ (body key : List ℕ) (r : Request) (q : RequestAt) (h : RequestHeld bo
 
 -- of a token within limits, whole
 pub token_law : (rows : List Row) → GoodTable rows → (body : List ℕ) (r : Request) (q : RequestAt) → RequestHeld body r q → (t : Token) → GoodToken t → (s : List ℕ)
-    → s ≡ encode_token t → bytes_judged (encode_table rows) s body q ≡ plain (failing_first (checks_of rows r t))
+    → s ≡ encode_token t → bytes_judged (encode_table rows) s body q ≡ failing_first (checks_of rows r t)
 unfolding bytes_judged token_judged key_found checks_of failing_first
 token_law rows gr body r q h t g s e =
     let w = token_written t g s e in

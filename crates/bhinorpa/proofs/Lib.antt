@@ -4,7 +4,6 @@ pub mod Rooms
 pub mod Tables
 pub mod Texts
 pub mod Items
-pub mod Places
 pub mod Walks
 pub mod Judged
 pub mod VerifyIs

@@ -1,5 +1,5 @@
 -- Narrow, one equation for each case of its verdict.
-use mathlib.Core.Path.{◌≡◌, refl, sym, ap, ap₂, ◌∙◌}
+use mathlib.Core.Path.{◌≡◌, refl, sym, ap, ◌∙◌}
 use mathlib.Core.Bool.{Bool, true, false}
 use mathlib.Core.List.{List, [], append-nil}
 use Prim.Native.Nat.{ℕ, ◌+◌, ◌≤◌, ◌<◌}
@@ -19,7 +19,7 @@ use Rattle.token_caveat.proofs.CaveatLaws.{caveat_written}
 use Rattle.token.specs.Tokens.{Token, encode_token}
 use Rattle.token.proofs.WritingLaws.{child_written}
 use Rattle.records_table.specs.Tables.{Row, has_row}
-use Rattle.outcome.specs.Decisions.{refused, refused_at, granted}
+use Rattle.outcome.specs.Decisions.{refused, granted}
 use Rattle.narrow_child.specs.Child.{sized}
 use Rattle.narrow.specs.Narrowing.{token_narrowed, bytes_narrowed, decoded_narrowed, text_narrowed, narrow_of}
 use Rattle.narrow.proofs.Narrowed.{narrow_too_long, narrow_bad_table, narrow_good_table}
@@ -31,11 +31,11 @@ use Rattle.bhinorpa.proofs.Texts.{bytes_few, Unread, unread_long, unread_fault, 
 use Rattle.bhinorpa.proofs.Items.{all_left}
 use Rattle.bhinorpa.proofs.Parents.{add_tree, narrow_tree, narrow_canonical}
 
-unread_refused : (table text bytes : List ℕ) (n at : ℕ) → Unread text n at → text_narrowed table text bytes ≡ refused_at n at
+unread_refused : (table text bytes : List ℕ) (n : ℕ) → Unread text n → text_narrowed table text bytes ≡ refused n
 unfolding text_narrowed decoded_of decoded_narrowed bytes_narrowed token_narrowed
-unread_refused table text bytes n at (unread_long l e z) = sym (narrow_too_long table text bytes l) ∙ ap₂ refused_at (sym e) (sym z)
-unread_refused table text bytes n at (unread_fault l j e) = rw (le-ltb 5462 (length text) l, j) (ap (λ (k : ℕ). refused_at k at) (sym e))
-unread_refused table text bytes n at (unread_bytes l k j f) = rw (le-ltb 5462 (length text) l, j, le-leb k 4096 (bytes_few text j l), f)
+unread_refused table text bytes n (unread_long l e) = sym (narrow_too_long table text bytes l) ∙ ap refused (sym e)
+unread_refused table text bytes n (unread_fault l at j e) = rw (le-ltb 5462 (length text) l, j) (ap refused (sym e))
+unread_refused table text bytes n (unread_bytes l k j at f) = rw (le-ltb 5462 (length text) l, j, le-leb k 4096 (bytes_few text j l), f)
 
 other_tag : (link tag : List ℕ) → (link ≡ tag → ⊥) → same_of link tag ≡ false
 other_tag link tag h = by (same_of link tag) refl
@@ -49,8 +49,8 @@ module _ (table text bytes : List ℕ) where
   narrow_no_table b h = sym (narrow_bad_table table text bytes (bad_table table b h))
 
   module _ (rows : List Row) (t : EncodesTable table rows) where
-    pub narrow_defect : (n at : ℕ) → TextDefect text n at → narrow_of table text bytes ≡ refused_at n at
-    narrow_defect n at d = sym (narrow_good_table table text bytes (good_table table rows t)) ∙ unread_refused table text bytes n at (defect_unread text n at d)
+    pub narrow_defect : (n : ℕ) → TextDefect text n → narrow_of table text bytes ≡ refused n
+    narrow_defect n d = sym (narrow_good_table table text bytes (good_table table rows t)) ∙ unread_refused table text bytes n (defect_unread text n d)
 
     module _ (token : Token) (c : Canonical text token) where
       of_tree : narrow_of table text bytes ≡ narrow_tree rows token bytes
@@ -66,11 +66,11 @@ module _ (table text bytes : List ℕ) where
     tagged : narrow_of table text bytes ≡ add_tree (key_for rows token) (chain_tag (key_for rows token) token) token bytes (caveat_of bytes)
     tagged = of_tree rows p.table_is token p.canonical ∙ rw (p.known, equal_same (chain_tag (key_for rows token) token) token.tag p.tagged)
 
-    pub narrow_caveat_defect : (n at : ℕ) → CaveatDefect bytes n at → narrow_of table text bytes ≡ refused_at (n + 27) at
-    narrow_caveat_defect n at (caveat_unreadable e) = tagged ∙ rw (defect_caveat bytes e)
-    narrow_caveat_defect n at (caveat_left_over caveat g rest e h z q) =
+    pub narrow_caveat_defect : (n : ℕ) → CaveatDefect bytes n → narrow_of table text bytes ≡ refused (n + 27)
+    narrow_caveat_defect n (caveat_unreadable at e) = tagged ∙ rw (defect_caveat bytes e)
+    narrow_caveat_defect n (caveat_left_over caveat g rest e h z) =
         let w = caveat_written caveat g bytes rest e in
-        tagged ∙ rw (w.answer, ne_eqb (length (encode_caveat caveat)) (length bytes) (all_left bytes (encode_caveat caveat) rest e h)) (ap₂ (λ (k p : ℕ). refused_at (k + 27) p) (sym z) (sym q))
+        tagged ∙ rw (w.answer, ne_eqb (length (encode_caveat caveat)) (length bytes) (all_left bytes (encode_caveat caveat) rest e h)) (ap (λ (k : ℕ). refused (k + 27)) (sym z))
 
     module _ (added : Caveat) (a : EncodesCaveat bytes added) where
       child : List ℕ

@@ -1,10 +1,9 @@
--- Each entry point has one answer for its arguments, and one place.
+-- Each entry point has one answer for its arguments.
 use mathlib.Core.Path.{◌≡◌}
 use mathlib.Core.List.{List}
 use Prim.Native.Nat.{ℕ}
 use Rattle.verify.specs.Verifying.{verify_of}
-use Rattle.verify.specs.declared.Finding.{Finding}
 use Rattle.verify.proofs.OneAnswer.{verify_one_answer}
 
-pub bhinorpa_verify_one_answer : (table request token : List ℕ) {r s : Finding} → r ≡ verify_of table request token → s ≡ verify_of table request token → r ≡ s
+pub bhinorpa_verify_one_answer : (table request token : List ℕ) {n m : ℕ} → n ≡ verify_of table request token → m ≡ verify_of table request token → n ≡ m
 bhinorpa_verify_one_answer table request token x y = verify_one_answer table request token x y

@@ -23,7 +23,7 @@ use Rattle.token.proofs.Holds.{Holds}
 use Rattle.records_table.specs.Tables.{Row, encode_table, GoodTable, has_row}
 use Rattle.records_table.proofs.TableLaws.{table_written, find_finds, key_of_row}
 use Rattle.verify_walk.specs.Walking.{links_of}
-use Rattle.outcome.specs.Decisions.{Decision, refused, refused_at}
+use Rattle.outcome.specs.Decisions.{Decision, refused}
 use Rattle.narrow_child.specs.Child.{sized, child_of, caveat_added}
 use Rattle.narrow.specs.Narrowing.{tag_narrowed, key_narrowed, token_narrowed, bytes_narrowed, decoded_narrowed, text_narrowed, narrow_of}
 use Rattle.outcome.proofs.Sizes.{short_text}
@@ -37,8 +37,8 @@ child_tree key link t caveat =
     (sized (child_bytes (length t.caveats) (encode_caveats t.caveats) caveat (encode_scope t.scope) (next_link key link caveat) t.kid t.tid))
 
 abbrev pub add_tree : List ℕ → List ℕ → Token → List ℕ → CaveatParts → Decision
-add_tree key link t caveat (Bad kind at) = refused_at (kind + 27) at
-add_tree key link t caveat (Of part next) = pick (eqb next (length caveat)) (child_tree key link t caveat) (refused_at 31 next)
+add_tree key link t caveat (Bad kind at) = refused (kind + 27)
+add_tree key link t caveat (Of part next) = pick (eqb next (length caveat)) (child_tree key link t caveat) (refused 31)
 
 abbrev pub narrow_tree : List Row → Token → List ℕ → Decision
 narrow_tree rows t caveat =
@@ -53,7 +53,7 @@ module _ (key s : List ℕ) (t : Token) (g : GoodToken t) (caveat : List ℕ) {p
   add_law : (link : List ℕ) (r : CaveatParts) → caveat_added key link s p caveat r ≡ add_tree key link t caveat r
   unfolding caveat_added
   add_law link (Bad kind at) = refl
-  add_law link (Of part next) = ap (λ (h : Decision). pick (eqb next (length caveat)) h (refused_at 31 next)) (child_law link)
+  add_law link (Of part next) = ap (λ (h : Decision). pick (eqb next (length caveat)) h (refused 31)) (child_law link)
 
   last_law : links_of s p.caveats key (first_link key t.tid t.kid (encode_scope t.scope)) ≡ chain_tag key t
   unfolding tag_of

@@ -52,10 +52,10 @@ reads_canonical text {n} j h e =
     }
 
 -- what the readings find of a text that is no token's
-pub data Unread (text : List ℕ) (n at : ℕ) : Type 0 where
-  unread_long : 5462 < length text → n ≡ 5 → at ≡ 0 → Unread text n at
-  unread_fault : length text ≤ 5462 → judged_of text ≡ Fault at → n ≡ 3 → Unread text n at
-  unread_bytes : length text ≤ 5462 → (k : ℕ) → judged_of text ≡ Whole k → token_of (bytes_of text) ≡ Bad n at → Unread text n at
+pub data Unread (text : List ℕ) (n : ℕ) : Type 0 where
+  unread_long : 5462 < length text → n ≡ 5 → Unread text n
+  unread_fault : length text ≤ 5462 → (at : ℕ) → judged_of text ≡ Fault at → n ≡ 3 → Unread text n
+  unread_bytes : length text ≤ 5462 → (k : ℕ) → judged_of text ≡ Whole k → (at : ℕ) → token_of (bytes_of text) ≡ Bad n at → Unread text n
 
 no_fault : (text bytes : List ℕ) → IsBytes bytes → text ≡ base64url bytes → (at : ℕ) → judged_of text ≡ Fault at → ⊥
 no_fault text bytes b e at j = apart (sym j ∙ ap judged_of e ∙ judged_text bytes b)
@@ -63,56 +63,60 @@ no_fault text bytes b e at j = apart (sym j ∙ ap judged_of e ∙ judged_text b
     apart : {k : ℕ} → ◌≡◌ {A = Judged} (Fault at) (Whole k) → ⊥
     apart x = let z : ◌≡◌ {A = ℕ} 0 1 = cc in omega arith
 
-pub defect_unread : (text : List ℕ) (n at : ℕ) → TextDefect text n at → Unread text n at
-defect_unread text n at (too_long h e z) = unread_long h e z
-defect_unread text n at (no_base64 l h e j) = unread_fault l j e
-defect_unread text n at (unreadable l bytes b e f) =
-    unread_bytes l (length bytes) (ap judged_of e ∙ judged_text bytes b) (ap token_of (ap bytes_of e ∙ bytes_text bytes b) ∙ defect_token bytes f)
+pub defect_unread : (text : List ℕ) (n : ℕ) → TextDefect text n → Unread text n
+defect_unread text n (too_long h e) = unread_long h e
+defect_unread text n (no_base64 l h e) = by (judged_of text) refl
+  where
+    by : (j : Judged) → judged_of text ≡ j → Unread text n
+    by (Fault at) j = unread_fault l at j e
+    by (Whole k) j = let z = h (bytes_of text) (whole_bytes text j) (sym (whole_text text j)) in elim z [ ]
+defect_unread text n (unreadable l bytes b e at f) =
+    unread_bytes l (length bytes) (ap judged_of e ∙ judged_text bytes b) at (ap token_of (ap bytes_of e ∙ bytes_text bytes b) ∙ defect_token bytes f)
 
-unread_defect : (text : List ℕ) (n at : ℕ) → Unread text n at → TextDefect text n at
-unread_defect text n at (unread_long h e z) = too_long h e z
-unread_defect text n at (unread_fault l j e) = no_base64 l (λ bytes b f. no_fault text bytes b f at j) e j
-unread_defect text n at (unread_bytes l k j f) = unreadable l (bytes_of text) (whole_bytes text j) (sym (whole_text text j)) (token_defect (bytes_of text) f)
+unread_defect : (text : List ℕ) (n : ℕ) → Unread text n → TextDefect text n
+unread_defect text n (unread_long h e) = too_long h e
+unread_defect text n (unread_fault l at j e) = no_base64 l (λ bytes b f. no_fault text bytes b f at j) e
+unread_defect text n (unread_bytes l k j at f) = unreadable l (bytes_of text) (whole_bytes text j) (sym (whole_text text j)) at (token_defect (bytes_of text) f)
 
 -- a defect's number is one of 3 to 6
-pub defect_few : (text : List ℕ) (n at : ℕ) → TextDefect text n at → (3 ≤ n) × (n ≤ 6)
-defect_few text n at (too_long h e z) = (omega (arith, e), omega (arith, e))
-defect_few text n at (no_base64 l h e j) = (omega (arith, e), omega (arith, e))
-defect_few text n at (unreadable l bytes b e f) = let k = token_kind bytes (defect_token bytes f) in (omega (arith, k.0), omega (arith, k.1))
+pub defect_few : (text : List ℕ) (n : ℕ) → TextDefect text n → (3 ≤ n) × (n ≤ 6)
+defect_few text n (too_long h e) = (omega (arith, e), omega (arith, e))
+defect_few text n (no_base64 l h e) = (omega (arith, e), omega (arith, e))
+defect_few text n (unreadable l bytes b e at f) = let k = token_kind bytes (defect_token bytes f) in (omega (arith, k.0), omega (arith, k.1))
 
 pub defect_no_token : DefectNoToken
-defect_no_token text n at d token c = by (defect_unread text n at d)
+defect_no_token text n d token c = by (defect_unread text n d)
   where
     bytes : List ℕ
     bytes = encode_token token
 
-    apart : {parts : TokenAt} → ◌≡◌ {A = TokenParts} (Bad n at) (Of parts) → ⊥
+    apart : {k at : ℕ} {parts : TokenAt} → ◌≡◌ {A = TokenParts} (Bad k at) (Of parts) → ⊥
     apart q = let z : ◌≡◌ {A = ℕ} 0 1 = cc in omega arith
 
-    by : Unread text n at → ⊥
-    by (unread_long h e z) = omega (arith, h, subst (λ (x : List ℕ). length x ≤ 5462) (sym c.written) (short_text bytes c.short))
-    by (unread_fault l j e) = no_fault text bytes c.are_bytes c.written at j
-    by (unread_bytes l k j f) = apart (sym f ∙ ap token_of (ap bytes_of c.written ∙ bytes_text bytes c.are_bytes) ∙ (token_written token c.good bytes refl).answer)
+    by : Unread text n → ⊥
+    by (unread_long h e) = omega (arith, h, subst (λ (x : List ℕ). length x ≤ 5462) (sym c.written) (short_text bytes c.short))
+    by (unread_fault l at j e) = no_fault text bytes c.are_bytes c.written at j
+    by (unread_bytes l k j at f) = apart (sym f ∙ ap token_of (ap bytes_of c.written ∙ bytes_text bytes c.are_bytes) ∙ (token_written token c.good bytes refl).answer)
 
 -- every text has a first defect, or is that of a token
 pub data TextIs (text : List ℕ) : Type 0 where
-  no_token : (n at : ℕ) → TextDefect text n at → TextIs text
+  no_token : (n : ℕ) → TextDefect text n → TextIs text
   one_token : (token : Token) → Canonical text token → TextIs text
 
 pub text_is : (text : List ℕ) → TextIs text
 text_is text = by_length (ltb 5462 (length text)) refl
   where
-    defect : (n at : ℕ) → Unread text n at → TextIs text
-    defect n at u = no_token n at (unread_defect text n at u)
+    defect : (n : ℕ) → Unread text n → TextIs text
+    defect n u = no_token n (unread_defect text n u)
 
     by_token : length text ≤ 5462 → (k : ℕ) → judged_of text ≡ Whole k → (p : TokenParts) → token_of (bytes_of text) ≡ p → TextIs text
-    by_token l k j (Bad n at) p = defect n at (unread_bytes l k j p)
+    by_token l k j (Bad n at) p = defect n (unread_bytes l k j at p)
     by_token l k j (Of parts) p = let t = reads_canonical text j l p in one_token t.token t.canonical
 
     by_judged : length text ≤ 5462 → (j : Judged) → judged_of text ≡ j → TextIs text
-    by_judged l (Fault at) j = defect 3 at (unread_fault l j refl)
+    by_judged l (Fault at) j = defect 3 (unread_fault l at j refl)
     by_judged l (Whole k) j = by_token l k j (token_of (bytes_of text)) refl
 
     by_length : (b : Bool) → ltb 5462 (length text) ≡ b → TextIs text
-    by_length true p = defect 5 0 (unread_long (ltb-true 5462 (length text) p) refl refl)
+    by_length true p = defect 5 (unread_long (ltb-true 5462 (length text) p) refl)
     by_length false p = by_judged (ltb-false 5462 (length text) p) (judged_of text) refl

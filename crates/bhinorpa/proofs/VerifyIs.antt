@@ -1,5 +1,5 @@
 -- Verify, one equation for each case of its verdict: by these the verdict is verify's answer, and is the only one.
-use mathlib.Core.Path.{◌≡◌, refl, sym, ap, ap₂, ◌∙◌}
+use mathlib.Core.Path.{◌≡◌, refl, sym, ap₂, ◌∙◌}
 use mathlib.Core.Bool.{true, false}
 use mathlib.Core.List.{List}
 use Prim.Native.Nat.{ℕ}
@@ -23,8 +23,6 @@ use Rattle.records_request.proofs.Holds.{Holds}
 use Rattle.records_request.proofs.RequestWritten.{request_written}
 use Rattle.records_request.proofs.RequestRead.{request_read}
 use Rattle.outcome.proofs.Sizes.{short_text}
-use Rattle.verify.specs.declared.Finding.{Finding}
-use Rattle.verify.specs.Findings.{answered, plain}
 use Rattle.verify.specs.Verifying.{token_judged, bytes_judged, decoded_judged, text_judged, request_judged, verify_of}
 use Rattle.verify.proofs.Decoding.{too_long as long_is}
 use Rattle.bhinorpa.specs.Allowed.{EncodesTable, EncodesRequest, Canonical, failing_first, checks_of}
@@ -33,7 +31,7 @@ use Rattle.bhinorpa.proofs.Judged.{token_law}
 use Rattle.bhinorpa.proofs.Texts.{bytes_few, Unread, unread_long, unread_fault, unread_bytes, defect_unread}
 
 module _ (rows : List Row) (gr : GoodTable rows) (body : List ℕ) (asked : Request) (q : RequestAt) (h : Holds body asked q) (text : List ℕ) where
-  canonical_is : (token : Token) → Canonical text token → text_judged (encode_table rows) text body q ≡ plain (failing_first (checks_of rows asked token))
+  canonical_is : (token : Token) → Canonical text token → text_judged (encode_table rows) text body q ≡ failing_first (checks_of rows asked token)
   unfolding text_judged decoded_of decoded_judged
   canonical_is token c =
       let b = encode_token token in
@@ -41,33 +39,33 @@ module _ (rows : List Row) (gr : GoodTable rows) (body : List ℕ) (asked : Requ
       rw (c.written, le-ltb 5462 (length (base64url b)) l, judged_text b c.are_bytes, le-leb (length b) 4096 c.short, bytes_text b c.are_bytes)
       (token_law rows gr body asked q h token c.good b refl)
 
-  unread_is : (n at : ℕ) → Unread text n at → text_judged (encode_table rows) text body q ≡ answered n at
+  unread_is : (n : ℕ) → Unread text n → text_judged (encode_table rows) text body q ≡ n
   unfolding text_judged decoded_of decoded_judged bytes_judged token_judged
-  unread_is n at (unread_long l e z) = sym (long_is (encode_table rows) text body q l) ∙ ap₂ answered (sym e) (sym z)
-  unread_is n at (unread_fault l j e) = rw (le-ltb 5462 (length text) l, j) (ap (λ (k : ℕ). answered k at) (sym e))
-  unread_is n at (unread_bytes l k j f) = rw (le-ltb 5462 (length text) l, j, le-leb k 4096 (bytes_few text j l), f)
+  unread_is n (unread_long l e) = sym (long_is (encode_table rows) text body q l) ∙ sym e
+  unread_is n (unread_fault l at j e) = rw (le-ltb 5462 (length text) l, j) (sym e)
+  unread_is n (unread_bytes l k j at f) = rw (le-ltb 5462 (length text) l, j, le-leb k 4096 (bytes_few text j l), f)
 
 -- with a good table and a good request, the text decides
 module _ (table request : List ℕ) (rows : List Row) (t : EncodesTable table rows) (asked : Request) (r : EncodesRequest request asked) (text : List ℕ) where
-  by_text : (found : Finding) → ((body : List ℕ) (q : RequestAt) → Holds body asked q → text_judged (encode_table rows) text body q ≡ found) → verify_of table request text ≡ found
+  by_text : (n : ℕ) → ((body : List ℕ) (q : RequestAt) → Holds body asked q → text_judged (encode_table rows) text body q ≡ n) → verify_of table request text ≡ n
   unfolding verify_of request_judged
-  by_text found k =
+  by_text n k =
       let body = encode_request asked in
       let w = request_written asked r.good body refl in
       ap₂ (λ (a b : List ℕ). verify_of a b text) t.written r.written ∙ rw (table_written rows t.good, w.answer) (k body w.parts w.holds)
 
-  pub verify_defect : (n at : ℕ) → TextDefect text n at → verify_of table request text ≡ answered n at
-  verify_defect n at d = by_text (answered n at) (λ body q h. unread_is rows t.good body asked q h text n at (defect_unread text n at d))
+  pub verify_defect : (n : ℕ) → TextDefect text n → verify_of table request text ≡ n
+  verify_defect n d = by_text n (λ body q h. unread_is rows t.good body asked q h text n (defect_unread text n d))
 
-  pub verify_token : (token : Token) → Canonical text token → verify_of table request text ≡ plain (failing_first (checks_of rows asked token))
-  verify_token token c = by_text (plain (failing_first (checks_of rows asked token))) (λ body q h. canonical_is rows t.good body asked q h text token c)
+  pub verify_token : (token : Token) → Canonical text token → verify_of table request text ≡ failing_first (checks_of rows asked token)
+  verify_token token c = by_text (failing_first (checks_of rows asked token)) (λ body q h. canonical_is rows t.good body asked q h text token c)
 
 module _ (table request text : List ℕ) where
-  pub verify_no_table : table_ok table ≡ false → verify_of table request text ≡ plain 1
+  pub verify_no_table : table_ok table ≡ false → verify_of table request text ≡ 1
   unfolding verify_of
   verify_no_table e = rw e
 
-  pub verify_no_request : table_ok table ≡ true → request_of request ≡ Bad → verify_of table request text ≡ plain 2
+  pub verify_no_request : table_ok table ≡ true → request_of request ≡ Bad → verify_of table request text ≡ 2
   unfolding verify_of request_judged
   verify_no_request e p = rw (e, p)
 

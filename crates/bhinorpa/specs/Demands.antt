@@ -8,7 +8,6 @@ use Rattle.basis.specs.Limits.{caveats_most, token_most, text_most}
 use Rattle.basis.specs.Basis.{pick, IsBytes}
 use Rattle.answers.specs.Answers.{number_of}
 use Rattle.answers.specs.declared.Answer.TheVariants.{Allow, CavFull, SizeFull, OutShort}
-use Rattle.text_writing.specs.Base64url.{base64url}
 use Rattle.cbor_strings.specs.Strings.{content_of}
 use Rattle.cbor_strings.specs.Segments.{Clean}
 use Rattle.cbor_strings.specs.declared.Class.TheVariants.{Path}
@@ -24,20 +23,19 @@ use Rattle.rules_compare.specs.Fitting.{fits_of, Fits}
 use Rattle.rules_compare.specs.FittingSegments.{FitsBySegments}
 use Rattle.rules.specs.Holding.{address_bytes, caveat_holds}
 use Rattle.verify.specs.Verifying.{verify_of}
-use Rattle.verify.specs.declared.Finding.{Finding}
 use Rattle.outcome.specs.Decisions.{Decision, Carried}
 use Rattle.outcome.specs.declared.Outcome.{Outcome}
 use Rattle.issue.specs.Issuing.{issue_of}
 use Rattle.narrow.specs.Narrowing.{narrow_of}
 use Rattle.bhinorpa.specs.Allowed.{EncodesTable, EncodesRequest, token_text, Canonical, caveat_bytes, Allowed}
 use Rattle.bhinorpa.specs.NewTokens.{EncodesCaveat, Grant, Parent, fresh_token, child_token, Issued, Narrowed, NarrowsExactly, Call, left_by, Narrowings, last_call, AllDone}
-use Rattle.bhinorpa.specs.Verdicts.{TextDefect, ScopeDefect, CaveatDefect, Verdict, IssueVerdict, NarrowVerdict, one_of, verify_answers, issue_answers, narrow_answers}
+use Rattle.bhinorpa.specs.Verdicts.{TextDefect, Verdict, IssueVerdict, NarrowVerdict, one_of, verify_answers, issue_answers, narrow_answers}
 
 -- DEMAND 1: "Any bytes may arrive at any entry point. Each judges them itself, ends, and answers from one numbered list in a stated order."
 
 -- verify answers 0 to 21
 abbrev pub VerifyList : Type 0
-VerifyList = (table request text : List ℕ) → one_of verify_answers (verify_of table request text).answer ≡ true
+VerifyList = (table request text : List ℕ) → one_of verify_answers (verify_of table request text) ≡ true
 
 -- issue answers 0, 1, 4 to 7 or 36
 abbrev pub IssueList : Type 0
@@ -62,23 +60,21 @@ RefusalWritesNothing =
 abbrev pub AllowedExactly : Type 0
 AllowedExactly =
     (table request text : List ℕ) (rows : List Row) → EncodesTable table rows → (asked : Request) → EncodesRequest request asked
-    → ((verify_of table request text).answer ≡ number_of Allow → Allowed rows asked text) × (Allowed rows asked text → (verify_of table request text).answer ≡ number_of Allow)
+    → (verify_of table request text ≡ number_of Allow → Allowed rows asked text) × (Allowed rows asked text → verify_of table request text ≡ number_of Allow)
 
--- "otherwise the first failing check is named"; document 02, M-104: "Demand 2 then fixes the offset as well": verify's number and place are
--- those of a verdict, and a verdict has one number and one place
+-- "otherwise the first failing check is named": verify's number is that of a verdict, and a verdict has one number
 abbrev pub FirstFailing : Type 0
 FirstFailing = (table request text : List ℕ) → IsBytes table → IsBytes request → Verdict table request text (verify_of table request text)
 
 abbrev pub VerdictOne : Type 0
 VerdictOne =
-    (table request text : List ℕ) → IsBytes table → IsBytes request → (first second : Finding) → Verdict table request text first → Verdict table request text second
-    → first ≡ second
+    (table request text : List ℕ) → IsBytes table → IsBytes request → (n m : ℕ) → Verdict table request text n → Verdict table request text m → n ≡ m
 
 -- and a text with a defect is no token's
 abbrev pub DefectNoToken : Type 0
-DefectNoToken = (text : List ℕ) (n at : ℕ) → TextDefect text n at → (token : Token) → Canonical text token → ⊥
+DefectNoToken = (text : List ℕ) (n : ℕ) → TextDefect text n → (token : Token) → Canonical text token → ⊥
 
--- the same of issue: what its contract says is a verdict, and a verdict settles number, length, place and final room
+-- the same of issue: what its contract says is a verdict, and a verdict settles number, length and final room
 abbrev pub IssueFirstFailing : Type 0
 IssueFirstFailing =
     (table tid kid bytes : List ℕ) → IsBytes table → IsBytes bytes → (entry : List ℕ) (outcome : Outcome) (exit : List ℕ)
@@ -110,14 +106,6 @@ abbrev pub NarrowVerdictOne : Type 0
 NarrowVerdictOne =
     (table text bytes : List ℕ) → IsBytes table → (entry : List ℕ) (first second : Outcome) (left right : List ℕ)
     → NarrowVerdict table text bytes entry first left → NarrowVerdict table text bytes entry second right → (first ≡ second) × (left ≡ right)
-
--- Document 02, M-104: "Offsets count in the decoded token, or in the scope or caveat bytes given": and never past their end; that of a text's
--- own defect not past the text's
-abbrev pub PlaceInside : Type 0
-PlaceInside =
-    ((text : List ℕ) (n at : ℕ) → TextDefect text n at → (at ≤ length text) × ((bytes : List ℕ) → IsBytes bytes → text ≡ base64url bytes → at ≤ length bytes))
-    × ((bytes : List ℕ) (n at : ℕ) → ScopeDefect bytes n at → at ≤ length bytes)
-    × ((bytes : List ℕ) (n at : ℕ) → CaveatDefect bytes n at → at ≤ length bytes)
 
 -- "Issue and narrow write exactly that form": the canonical text of the fresh token of the scope asked for; of the parent's token with the
 -- caveat last and the next tag

@@ -95,8 +95,8 @@ pub record NarrowsExactly (table text bytes child : List ℕ) : Type 0 where
       → (Allowed rows asked child → Allowed rows asked text × (caveat_holds asked token.tid added ≡ true))
       × (Allowed rows asked text × (caveat_holds asked token.tid added ≡ true) → Allowed rows asked child)
   pub by_verify : (request : List ℕ) (asked : Request) → EncodesRequest request asked
-      → ((verify_of table request child).answer ≡ number_of Allow → ((verify_of table request text).answer ≡ number_of Allow) × (caveat_holds asked token.tid added ≡ true))
-      × (((verify_of table request text).answer ≡ number_of Allow) × (caveat_holds asked token.tid added ≡ true) → (verify_of table request child).answer ≡ number_of Allow)
+      → (verify_of table request child ≡ number_of Allow → (verify_of table request text ≡ number_of Allow) × (caveat_holds asked token.tid added ≡ true))
+      × ((verify_of table request text ≡ number_of Allow) × (caveat_holds asked token.tid added ≡ true) → verify_of table request child ≡ number_of Allow)
 
 -- a call into a room: as it was, what was answered, and as it is then
 pub record Call : Type 0 where

@@ -7,12 +7,10 @@ ghost use Rattle.issue.specs.Issuing.{issue_of};
 ghost use Rattle.narrow.specs.Narrowing.{narrow_of};
 
 use outcome::Outcome;
-use verify::Finding;
 
-// Whether a token is allowed: 0, or the number of the first check that fails, with the place of what could not be
-// read.
+// Whether a token is allowed: 0, or the number of the first check that fails.
 #[unsafe(no_mangle)]
-pub extern "C" fn bhinorpa_verify(table: &[u8], request: &[u8], token: &[u8]) -> Finding
+pub extern "C" fn bhinorpa_verify(table: &[u8], request: &[u8], token: &[u8]) -> u32
     ensures { result ≡ verify_of table.now request.now token.now }
 {
     verify::verify(table, request, token)

@@ -12,7 +12,7 @@ use Rattle.answers.specs.Answers.{answer_of}
 use Rattle.bundle.specs.Lines.{line_words, line, kind_then, lines_from, lines_of}
 
 -- before any request, whatever the token
-pub unasked : (token : List ℕ) → (verify_of [] [] token).answer ≡ 2
+pub unasked : (token : List ℕ) → verify_of [] [] token ≡ 2
 unfolding verify_of request_judged table_ok ok_from request_of fixed_at little_at run_at
 unasked token = refl
 

@@ -141,7 +141,7 @@ module _ {s entry room : List ℕ} {p n : ℕ} {t q : Span} (w : Going s entry r
               fits = omega (arith, w.fits);
             }
 
-        judged : {a : ℕ} → (found.kind ≡ 16 → ⊥) → (found.kind ≡ 32 → ⊥) → found.kind ≡ 48 → a ≡ (verify_of (between s t) (between s q) (between s found.body)).answer
+        judged : {a : ℕ} → (found.kind ≡ 16 → ⊥) → (found.kind ≡ 32 → ⊥) → found.kind ≡ 48 → a ≡ verify_of (between s t) (between s q) (between s found.body)
             → (w.done ++ line a) ++ lines_from (w.left - 1) s (between s t) (between s q) found.body.to ≡ lines_from 16384 s [] [] 0
         unfolding kind_then
         judged {a} i j k v =
@@ -149,7 +149,7 @@ module _ {s entry room : List ℕ} {p n : ℕ} {t q : Span} (w : Going s entry r
             ∙ rw v (rw (ne_eqb found.kind 16 i, ne_eqb found.kind 32 j, eq-eqb found.kind 48 k) at turned)
 
         pub token_one : {x y z : List ℕ} {a r : ℕ} {f : List ℕ} → (found.kind ≡ 16 → ⊥) → (found.kind ≡ 32 → ⊥) → found.kind ≡ 48
-            → x ≡ between s t → y ≡ between s q → z ≡ between s found.body → a ≡ (verify_of x y z).answer → Placed (line a) room n r f
+            → x ≡ between s t → y ≡ between s q → z ≡ between s found.body → a ≡ verify_of x y z → Placed (line a) room n r f
             → Going s entry f found.body.to r t q
         token_one {x} {y} {z} {a} i j k ex ey ez v g =
             record {

@@ -52,5 +52,5 @@ low_named : (n : ℕ) → n < 22 → Named n
 unfolding all answer_of is_of
 low_named n h = named_by n (all_at 22 (λ n. is_of (answer_of n)) refl n h)
 
-pub verify_named : (table request token : List ℕ) → Named (verify_of table request token).answer
-verify_named table request token = low_named (verify_of table request token).answer (verify_low table request token)
+pub verify_named : (table request token : List ℕ) → Named (verify_of table request token)
+verify_named table request token = low_named (verify_of table request token) (verify_low table request token)

@@ -26,12 +26,12 @@ from_short (suc k) s table request at =
     by (Of found) h =
         let body = between s found.body in
         let to = found.body.to in
-        let l = line (verify_of table request body).answer in
+        let l = line (verify_of table request body) in
         let m = lines_from k s table request to in
         either (λ (x : List ℕ). length x ≤ 27 * suc k) (eqb found.kind 16) (omega (arith, h body request to))
         (either (λ (x : List ℕ). length x ≤ 27 * suc k) (eqb found.kind 32) (omega (arith, h table body to))
         (either (λ (x : List ℕ). length x ≤ 27 * suc k) (eqb found.kind 48)
-        (omega (arith, length-append l m, line_short (verify_of table request body).answer, h table request to)) (omega arith)))
+        (omega (arith, length-append l m, line_short (verify_of table request body), h table request to)) (omega arith)))
 
 pub lines_short : (input : List ℕ) → length (lines_of input) ≤ 442368
 unfolding lines_of

@@ -30,7 +30,7 @@ unfoldable pub kind_then : (List ℕ → List ℕ → ℕ → List ℕ) → List
 kind_then rest s table request found =
     pick (eqb found.kind table_kind) (rest (between s found.body) request found.body.to)
     (pick (eqb found.kind request_kind) (rest table (between s found.body) found.body.to)
-    (pick (eqb found.kind token_kind) (line (verify_of table request (between s found.body)).answer ++ rest table request found.body.to) bad_line))
+    (pick (eqb found.kind token_kind) (line (verify_of table request (between s found.body)) ++ rest table request found.body.to) bad_line))
 
 -- so many records at most from a place on, under this table and this request
 unfoldable pub lines_from : ℕ → List ℕ → List ℕ → List ℕ → ℕ → List ℕ

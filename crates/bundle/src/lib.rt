@@ -67,12 +67,12 @@ fn walk(input: &[u8], room: &mut [u8]) -> usize
                 } else if kind == limits::REQUEST_KIND {
                     request = body;
                 } else if kind == limits::TOKEN_KIND {
-                    let finding = verify::verify(
+                    let answer = verify::verify(
                         basis::lend(input, table),
                         basis::lend(input, request),
                         basis::lend(input, body),
                     );
-                    n = put_line(room, n, finding.answer);
+                    n = put_line(room, n, answer);
                 } else {
                     return cbor_writing::put_at(room, n, b"bundle.bad\n");
                 }

@@ -7,4 +7,3 @@ pub mod Inside
 pub mod DefectKinds
 pub mod Indexes
 pub mod MapLaws
-pub mod MapInside

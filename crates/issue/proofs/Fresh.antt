@@ -26,7 +26,7 @@ use Rattle.records_table.specs.Order.{same_ids}
 use Rattle.records_table.specs.Tables.{Row, GoodFrom, GoodTable, has_row, key_in}
 use Rattle.records_table.specs.Reading.{table_ok, find_from}
 use Rattle.records_table.proofs.TableLaws.{table_read, find_finds, key_of_row}
-use Rattle.outcome.specs.Decisions.{refused, refused_at, granted}
+use Rattle.outcome.specs.Decisions.{refused, granted}
 use Rattle.issue.specs.Issuing.{issue_with, issue_then, issue_of}
 use Rattle.issue.specs.Inner.{Issuable}
 use Rattle.issue.proofs.Sizes.{fresh_few}
@@ -113,12 +113,12 @@ module _ (table tid kid scope : List ℕ) where
   issue_bad_table e = rw e
 
   module _ (e : table_ok table ≡ true) where
-    pub issue_bad_scope : {kind at : ℕ} → scope_of scope 0 ≡ Bad kind at → refused_at kind at ≡ issue_of table tid kid scope
+    pub issue_bad_scope : {kind at : ℕ} → scope_of scope 0 ≡ Bad kind at → refused kind ≡ issue_of table tid kid scope
     unfolding issue_of issue_then
     issue_bad_scope f = rw (e, f)
 
     module _ {parts : ScopeAt} {next : ℕ} (f : scope_of scope 0 ≡ Of parts next) where
-      pub issue_left_over : (next ≡ length scope → ⊥) → refused_at 4 next ≡ issue_of table tid kid scope
+      pub issue_left_over : (next ≡ length scope → ⊥) → refused 4 ≡ issue_of table tid kid scope
       unfolding issue_of issue_then
       issue_left_over n = rw (e, f, ne_eqb next (length scope) n)
 

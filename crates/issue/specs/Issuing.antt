@@ -10,16 +10,16 @@ use Rattle.token_scope.specs.declared.ScopeParts.{ScopeParts}
 use Rattle.token_scope.specs.declared.ScopeParts.TheVariants.{Of, Bad}
 use Rattle.token.specs.Writing.{fresh_bytes}
 use Rattle.records_table.specs.Reading.{table_ok, find_from}
-use Rattle.outcome.specs.Decisions.{Decision, refused, refused_at, granted}
+use Rattle.outcome.specs.Decisions.{Decision, refused, granted}
 
 -- 7; then the text of a fresh token, tagged with the first link
 unfoldable pub issue_with : List ℕ → List ℕ → List ℕ → List ℕ → Decision
 issue_with key tid kid scope = pick (eqb (length key) key_length) (granted (base64url (fresh_bytes scope (first_link key tid kid scope) kid tid))) (refused 7)
 
--- 4 to 6: the bytes are one scope, and nothing is left over; 02, M-104: "the first left-over byte", and all places count in the scope
+-- 4 to 6: the bytes are one scope, and nothing is left over
 unfoldable pub issue_then : List ℕ → List ℕ → List ℕ → List ℕ → ScopeParts → Decision
-issue_then table tid kid scope (Bad kind at) = refused_at kind at
-issue_then table tid kid scope (Of parts next) = pick (eqb next (length scope)) (issue_with (find_from rows_most table tid kid 0) tid kid scope) (refused_at 4 next)
+issue_then table tid kid scope (Bad kind at) = refused kind
+issue_then table tid kid scope (Of parts next) = pick (eqb next (length scope)) (issue_with (find_from rows_most table tid kid 0) tid kid scope) (refused 4)
 
 -- 1
 unfoldable pub issue_of : List ℕ → List ℕ → List ℕ → List ℕ → Decision

@@ -27,12 +27,12 @@ pub fn issue(table: &[u8], tid: &[u8], kid: &[u8], scope: &[u8], room: &mut [u8]
 {
     if records_table::table_ok(table) {
         return match token_scope::read_scope(scope, 0) {
-            ScopeParts::Bad { kind, at } => outcome::defect(kind, at),
+            ScopeParts::Bad { kind, at: _ } => outcome::refusal(kind),
             ScopeParts::Of { scope: _, next } => {
                 if next == scope.len() {
                     return issue_with(records_table::find(table, tid, kid), tid, kid, scope, room);
                 }
-                outcome::defect(4, next)
+                outcome::refusal(4)
             }
         };
     }

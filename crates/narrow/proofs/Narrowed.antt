@@ -16,7 +16,7 @@ use Rattle.token.specs.declared.TokenParts.TheVariants.{Of, Bad}
 use Rattle.records_table.specs.Reading.{table_ok, find_from}
 use Rattle.token.specs.declared.TokenAt.{TokenAt}
 use Rattle.verify_walk.specs.Walking.{link_first, links_of}
-use Rattle.outcome.specs.Decisions.{refused, refused_at}
+use Rattle.outcome.specs.Decisions.{refused}
 use Rattle.narrow_child.specs.Child.{caveat_added}
 use Rattle.narrow.specs.Narrowing.{last_link, tag_narrowed, key_narrowed, token_narrowed, bytes_narrowed, decoded_narrowed, text_narrowed, narrow_of}
 
@@ -34,7 +34,7 @@ module _ (key s : List ℕ) (p : TokenAt) (caveat : List ℕ) {first link tag : 
   narrow_right_tag e = rw (← is_last, ← eg, e)
 
 module _ (table s caveat : List ℕ) where
-  pub narrow_unreadable : {kind at : ℕ} → token_of s ≡ Bad kind at → refused_at kind at ≡ bytes_narrowed table s caveat
+  pub narrow_unreadable : {kind at : ℕ} → token_of s ≡ Bad kind at → refused kind ≡ bytes_narrowed table s caveat
   unfolding bytes_narrowed token_narrowed
   narrow_unreadable e = rw e
 
@@ -61,7 +61,7 @@ module _ (table text caveat : List ℕ) where
     unfolding text_narrowed
     decoded = rw (le-ltb 5462 (length text) h, ← l, f.answer)
 
-    pub narrow_not_text : {at : ℕ} → r ≡ NoText at → refused_at 3 at ≡ text_narrowed table text caveat
+    pub narrow_not_text : {at : ℕ} → r ≡ NoText at → refused 3 ≡ text_narrowed table text caveat
     unfolding decoded_narrowed
     narrow_not_text e = rw e at decoded
 

@@ -17,7 +17,7 @@ use Rattle.verify_walk.specs.Walking.{link_first, links_of}
 use Rattle.verify.specs.Verifying.{key_of}
 use Rattle.token.specs.declared.TokenAt.{TokenAt}
 use Rattle.narrow_child.specs.Child.{caveat_added}
-use Rattle.outcome.specs.Decisions.{Decision, refused, refused_at}
+use Rattle.outcome.specs.Decisions.{Decision, refused}
 
 -- the last link of the parent's chain, which is its tag and the link that the child's is made of
 abbrev pub last_link : List ℕ → List ℕ → TokenAt → List ℕ
@@ -34,7 +34,7 @@ key_narrowed key s p caveat = pick (eqb (length key) key_length) (tag_narrowed k
 
 -- 4 to 6
 unfoldable pub token_narrowed : List ℕ → List ℕ → List ℕ → TokenParts → Decision
-token_narrowed table s caveat (NoToken kind at) = refused_at kind at
+token_narrowed table s caveat (NoToken kind at) = refused kind
 token_narrowed table s caveat (TokenIs p) = key_narrowed (key_of table s p) s p caveat
 
 unfoldable pub bytes_narrowed : List ℕ → List ℕ → List ℕ → Decision
@@ -42,11 +42,11 @@ bytes_narrowed table s caveat = token_narrowed table s caveat (token_of s)
 
 -- 3; that the bytes of 5,462 characters do not fit cannot be
 unfoldable pub decoded_narrowed : List ℕ → List ℕ → List ℕ → Decoded → Decision
-decoded_narrowed table text caveat (NoText at) = refused_at 3 at
+decoded_narrowed table text caveat (NoText at) = refused 3
 decoded_narrowed table text caveat Short = refused 5
 decoded_narrowed table text caveat (Bytes n) = bytes_narrowed table (bytes_of text) caveat
 
--- "text length"; 02, M-104: "Text over 5,462 characters carries 0"
+-- "text length"
 unfoldable pub text_narrowed : List ℕ → List ℕ → List ℕ → Decision
 text_narrowed table text caveat = pick (ltb text_most (length text)) (refused 5) (decoded_narrowed table text caveat (decoded_of (judged_of text) token_most))
 

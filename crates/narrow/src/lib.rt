@@ -31,7 +31,7 @@ fn narrow_bytes(table: &[u8], s: &[u8], caveat: &[u8], room: &mut [u8]) -> Outco
     ensures { Carried (bytes_narrowed table.now s.now caveat.now) room.old result room.new }
 {
     match token::read_token(s) {
-        TokenParts::Bad { kind, at } => outcome::defect(kind, at),
+        TokenParts::Bad { kind, at: _ } => outcome::refusal(kind),
         TokenParts::Of { token } => {
             let tid = token.tid;
             let kid = token.kid;
@@ -52,7 +52,7 @@ fn narrow_text(table: &[u8], text: &[u8], caveat: &[u8], room: &mut [u8]) -> Out
     }
     let mut bytes: [u8; 4096] = [0; 4096];
     match text_reading::decode(text, &mut bytes) {
-        Decoded::Bad { at } => outcome::defect(3, at),
+        Decoded::Bad { at: _ } => outcome::refusal(3),
         Decoded::Short => outcome::refusal(5),
         Decoded::Bytes { n } => narrow_bytes(table, &bytes[0..n], caveat, room),
     }

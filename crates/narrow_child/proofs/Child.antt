@@ -18,7 +18,7 @@ use Rattle.token_caveat_values.specs.declared.CaveatParts.TheVariants.{Of, Bad}
 use Rattle.token_caveat.proofs.DefectKinds.{caveat_kind}
 use Rattle.token.specs.Tokens.{token_bytes}
 use Rattle.token.specs.declared.TokenAt.{TokenAt}
-use Rattle.outcome.specs.Decisions.{refused, refused_at, granted}
+use Rattle.outcome.specs.Decisions.{refused, granted}
 use Rattle.narrow_child.specs.Child.{sized, child_of, caveat_added}
 
 -- a token is no shorter than its last caveat, and not empty
@@ -87,12 +87,12 @@ module _ (key link s : List ℕ) (p : TokenAt) (caveat : List ℕ) where
       child_granted {bytes} e l = ap (λ (b : List ℕ). granted (base64url b)) e ∙ (rw (le-ltb 4096 (length child) l) at by_size)
 
   -- the caveat's reading
-  pub caveat_bad : {kind at : ℕ} → caveat_of caveat ≡ Bad kind at → refused_at (kind + 27) at ≡ caveat_added key link s p caveat (caveat_of caveat)
+  pub caveat_bad : {kind at : ℕ} → caveat_of caveat ≡ Bad kind at → refused (kind + 27) ≡ caveat_added key link s p caveat (caveat_of caveat)
   unfolding caveat_added
   caveat_bad e = rw e
 
   module _ {part : CaveatAt} {next : ℕ} (e : caveat_of caveat ≡ Of part next) where
-    pub caveat_left_over : (next ≡ length caveat → ⊥) → refused_at 31 next ≡ caveat_added key link s p caveat (caveat_of caveat)
+    pub caveat_left_over : (next ≡ length caveat → ⊥) → refused 31 ≡ caveat_added key link s p caveat (caveat_of caveat)
     unfolding caveat_added
     caveat_left_over n = rw (e, ne_eqb next (length caveat) n)
 

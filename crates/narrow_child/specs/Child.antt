@@ -9,7 +9,7 @@ use Rattle.token_caveat_values.specs.declared.CaveatParts.{CaveatParts}
 use Rattle.token_caveat_values.specs.declared.CaveatParts.TheVariants.{Of, Bad}
 use Rattle.token.specs.Writing.{child_bytes}
 use Rattle.token.specs.declared.TokenAt.{TokenAt}
-use Rattle.outcome.specs.Decisions.{Decision, refused, refused_at, granted}
+use Rattle.outcome.specs.Decisions.{Decision, refused, granted}
 
 -- 35: "At most 4,096 decoded bytes"
 unfoldable pub sized : List ℕ → Decision
@@ -23,7 +23,7 @@ child_of key link s p caveat =
     (child_bytes p.caveats.count (between s p.caveats.span) caveat (between s p.scope) (next_link key link caveat) (between s p.kid)
     (between s p.tid)))
 
--- "the caveat's reading as 31, 32, 33 for 4, 5, 6"; bytes left over are 31. 02, M-104: "Offsets count .. in the .. caveat bytes given"
+-- "the caveat's reading as 31, 32, 33 for 4, 5, 6"; bytes left over are 31
 unfoldable pub caveat_added : List ℕ → List ℕ → List ℕ → TokenAt → List ℕ → CaveatParts → Decision
-caveat_added key link s p caveat (Bad kind at) = refused_at (kind + 27) at
-caveat_added key link s p caveat (Of part next) = pick (eqb next (length caveat)) (child_of key link s p caveat) (refused_at 31 next)
+caveat_added key link s p caveat (Bad kind at) = refused (kind + 27)
+caveat_added key link s p caveat (Of part next) = pick (eqb next (length caveat)) (child_of key link s p caveat) (refused 31)

@@ -67,12 +67,12 @@ pub fn add_caveat(
     ensures { Carried (caveat_added key.now link s.now parent caveat.now (caveat_of caveat.now)) room.old result room.new }
 {
     match token_caveat::read_caveat(caveat) {
-        CaveatParts::Bad { kind, at } => outcome::defect(kind + 27, at),
+        CaveatParts::Bad { kind, at: _ } => outcome::refusal(kind + 27),
         CaveatParts::Of { caveat: _, next } => {
             if next == caveat.len() {
                 return write_child(key, link, s, parent, caveat, room);
             }
-            outcome::defect(31, next)
+            outcome::refusal(31)
         }
     }
 }

@@ -13,12 +13,12 @@ use Rattle.text_writing.specs.Base64url.{base64url}
 use Rattle.text_writing.specs.Writing.{Encoding}
 use Rattle.text_writing.specs.declared.Encoded.{Encoded}
 use Rattle.text_writing.specs.declared.Encoded.TheVariants.{Text, NoRoom}
-use Rattle.outcome.specs.Decisions.{Decision, refused_at, granted, defect, refusal, Carried}
+use Rattle.outcome.specs.Decisions.{Decision, refused, granted, refusal, Carried}
 use Rattle.outcome.specs.declared.Outcome.{Outcome}
 use Rattle.outcome.proofs.Sizes.{short_text}
 
-pub refused_is : {n at : ℕ} {entry : List ℕ} {r : Outcome} → r ≡ defect n at → Carried (refused_at n at) entry r entry
-refused_is e = rw e (record { answer = refl; count = refl; place = refl; content = refl })
+pub refused_is : {n : ℕ} {entry : List ℕ} {r : Outcome} → r ≡ refusal n → Carried (refused n) entry r entry
+refused_is e = rw e (record { answer = refl; count = refl; content = refl })
 
 pub moved : {h k : Decision} {entry : List ℕ} {r : Outcome} {exit : List ℕ} → h ≡ k → Carried h entry r exit → Carried k entry r exit
 moved e w = rw (← e) w
@@ -35,17 +35,17 @@ module _ (bytes entry : List ℕ) {r : Encoded} {exit : List ℕ} (w : Encoding 
   none_told true p q = let z : ◌≡◌ {A = ℕ} 0 1 = cc in let z : ⊥ = omega arith in elim z [ ]
   none_told false p q = refl
 
-  pub text_carried : {n : ℕ} → r ≡ Text n → Carried (granted text) entry (record { answer = 0; length = n; offset = 0 }) exit
+  pub text_carried : {n : ℕ} → r ≡ Text n → Carried (granted text) entry (record { answer = 0; length = n }) exit
   text_carried {n} e =
       let f = fits_told e (leb (length text) (length entry)) refl (sym w.answer ∙ e) in
       let c : exit ≡ over text entry = w.content ∙ ap (λ (b : Bool). pick b (over text entry) entry) f.0 in
-      record { answer = rw f.0; count = rw f.0 (sym f.1); place = refl; content = rw f.0 c }
+      record { answer = rw f.0; count = rw f.0 (sym f.1); content = rw f.0 c }
 
   pub none_carried : r ≡ NoRoom → {o : Outcome} → o ≡ refusal 36 → Carried (granted text) entry o exit
   none_carried e g =
       let f = none_told (leb (length text) (length entry)) refl (sym w.answer ∙ e) in
       let c : exit ≡ entry = w.content ∙ ap (λ (b : Bool). pick b (over text entry) entry) f in
-      rw g (record { answer = rw f; count = rw f; place = refl; content = rw f c })
+      rw g (record { answer = rw f; count = rw f; content = rw f c })
 
   pub count_fits : length bytes ≤ 4096 → {n : ℕ} → r ≡ Text n → n < 2 ^ 32
   count_fits l {n} e =

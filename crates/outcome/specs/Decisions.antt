@@ -4,41 +4,29 @@ use Rattle.std.specs.Prelude.{◌≡◌, List, ℕ, leb, length}
 use Rattle.basis.specs.Basis.{pick, over}
 use Rattle.outcome.specs.declared.Outcome.{Outcome}
 
--- a refusal with its number and its place, or a text for a room that holds it
+-- a refusal with its number, or a text for a room that holds it
 pub data Decision : Type 0 where
-  refused_at : ℕ → ℕ → Decision
+  refused : ℕ → Decision
   granted : List ℕ → Decision
-
--- 02, M-104: "Each reading defect shall carry the offset ..; other answers carry 0"
-abbrev pub refused : ℕ → Decision
-refused n = refused_at n 0
 
 -- 36, the last check: the room is shorter than the text
 abbrev pub answer_for : Decision → ℕ → ℕ
-answer_for (refused_at n at) room = n
+answer_for (refused n) room = n
 answer_for (granted text) room = pick (leb (length text) room) 0 36
 
 abbrev pub length_for : Decision → ℕ → ℕ
-length_for (refused_at n at) room = 0
+length_for (refused n) room = 0
 length_for (granted text) room = pick (leb (length text) room) (length text) 0
 
-abbrev pub offset_for : Decision → ℕ
-offset_for (refused_at n at) = at
-offset_for (granted text) = 0
-
 abbrev pub content_for : Decision → List ℕ → List ℕ
-content_for (refused_at n at) entry = entry
+content_for (refused n) entry = entry
 content_for (granted text) entry = pick (leb (length text) (length entry)) (over text entry) entry
 
--- the outcome of a defect, and that of any other check that fails
-abbrev pub defect : ℕ → ℕ → Outcome
-defect n at = record { answer = n; length = 0; offset = at }
-
+-- the outcome of a check that fails
 abbrev pub refusal : ℕ → Outcome
-refusal n = defect n 0
+refusal n = record { answer = n; length = 0 }
 
 pub record Carried (h : Decision) (entry : List ℕ) (r : Outcome) (exit : List ℕ) : Type 0 where
   pub answer : r.answer ≡ answer_for h (length entry)
   pub count : r.length ≡ length_for h (length entry)
-  pub place : r.offset ≡ offset_for h
   pub content : exit ≡ content_for h entry

@@ -1,38 +1,24 @@
-// What issue and narrow hand out: a number, a length and a place, and the room's content. A refusal is made in one
-// place, and a text is written whole or not at all.
+// What issue and narrow hand out: a number and a length, and the room's content. A refusal is made in one place, and
+// a text is written whole or not at all.
 ghost use Rattle.std.specs.Prelude.{◌≡◌, ◌≤◌, length};
 ghost use Rattle.basis.specs.Limits.{token_most};
 ghost use Rattle.text_writing.specs.Base64url.{base64url};
-ghost use Rattle.outcome.specs.Decisions.{Carried, defect, granted, refusal};
+ghost use Rattle.outcome.specs.Decisions.{Carried, granted, refusal};
 
 use text_writing::Encoded;
 
-// 0 and the text's length, or the number of the first check that fails, 0, and the place where that is a defect of
-// what was read.
+// 0 and the text's length, or the number of the first check that fails and 0.
 #[repr(C)]
 #[derive(Drop)]
 pub struct Outcome {
     pub answer: u32,
     pub length: u32,
-    pub offset: u64,
 }
 
-// What a reading found, at the place that it found it.
-pub fn defect(answer: u32, at: usize) -> Outcome
-    ensures { result ≡ defect answer at }
-{
-    Outcome {
-        answer,
-        length: 0,
-        offset: at as u64,
-    }
-}
-
-// Any other check has no place.
 pub fn refusal(answer: u32) -> Outcome
     ensures { result ≡ refusal answer }
 {
-    defect(answer, 0)
+    Outcome { answer, length: 0 }
 }
 
 // The text of a token's bytes, if the room holds it.
@@ -45,7 +31,6 @@ pub fn write_text(bytes: &[u8], room: &mut [u8]) -> Outcome
         Encoded::Text { n } => Outcome {
             answer: 0,
             length: n as u32,
-            offset: 0,
         },
     }
 }

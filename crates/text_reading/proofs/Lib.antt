@@ -4,4 +4,3 @@ pub mod Filling
 pub mod Decoding
 pub mod TextLaws
 pub mod OneAnswer
-pub mod Inside

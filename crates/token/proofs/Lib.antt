@@ -7,4 +7,3 @@ pub mod WritingLaws
 pub mod OneAnswer
 pub mod DefectKinds
 pub mod TokenMap
-pub mod Inside

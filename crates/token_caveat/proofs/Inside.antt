@@ -1,6 +1,5 @@
 -- Every place that the reading of a caveat answers, where it ends and where a defect is, lies inside the slice: step by step, by
 -- Inside of `cbor_keys`.
-use mathlib.Core.Path.{◌≡◌, subst}
 use mathlib.Core.List.{List}
 use Prim.Native.Nat.{ℕ, ◌≤◌}
 use native.Mathlib.Omega.{arith}
@@ -15,8 +14,7 @@ use Rattle.cbor_strings.specs.declared.Class.{Class}
 use Rattle.cbor_strings.specs.declared.Class.TheVariants.{Name, Printable, Path, Hex}
 use Rattle.cbor_strings.proofs.Inside.{count_in, run_in, string_in}
 use Rattle.cbor_values.specs.Reading.{value_of}
-use Rattle.cbor_values.specs.declared.Item.TheVariants.{Bad as NoItem}
-use Rattle.cbor_values.proofs.Inside.{ItemIn, value_in}
+use Rattle.cbor_values.proofs.Inside.{value_in}
 use Rattle.token_cidr.specs.Reading.{cidr_of}
 use Rattle.token_cidr.specs.declared.Cidr.{Cidr}
 use Rattle.token_cidr.specs.declared.Cidr.TheVariants.{Of as CidrOf, Bad as NoCidr}
@@ -28,14 +26,12 @@ use Rattle.cbor_keys.specs.Indexes.{t_exp, t_nbf, t_aud, t_method, t_path_prefix
 use Rattle.cbor_keys.proofs.Inside.{item_step, content_step, count_step, key_step, key_in, wanted_in, name_field_in, number_field_in}
 use Rattle.token_scope.specs.Methods.{methods_of}
 use Rattle.token_scope.proofs.Inside.{methods_in, methods_step}
-use Rattle.token_caveat_values.specs.Values.{parts_end, number_then, number_value, text_then, text_value, digest_bad, digest_then, digest_value, method_then, method_value}
+use Rattle.token_caveat_values.specs.Values.{number_then, number_value, text_then, text_value, digest_bad, digest_then, digest_value, method_then, method_value}
 use Rattle.token_caveat_values.specs.Values.{cidr_by, cidr_then, cidr_value, flag_then, amnesia_value}
 use Rattle.token_caveat_values.specs.Maps.{rate_then, burst_then, rate_map, rate_value}
 use Rattle.token_caveat_values.specs.Maps.{name_then, custom_end, custom_then, ns_then, custom_map, custom_value}
 use Rattle.token_caveat.specs.Reading.{t_next, t_value_then, caveat_map, caveat_of}
 use Rattle.token_caveat.specs.Values.{value_at}
-use Rattle.token_caveat.specs.Fields.{read_caveat}
-use Rattle.token_caveat.proofs.CaveatMap.{caveat_map_lem}
 use Rattle.token_caveat_values.specs.declared.CaveatAt.{CaveatAt}
 use Rattle.token_caveat_values.specs.declared.CaveatAt.TheVariants.{Exp, Nbf, BytesLe, Aud, PathPrefix, Tenant}
 use Rattle.token_caveat_values.specs.declared.CaveatParts.{CaveatParts}
@@ -161,14 +157,3 @@ pub caveat_in : (s : List ℕ) → CaveatIn (length s) (caveat_of s)
 unfolding caveat_of
 caveat_in s =
     count_step (CaveatIn (length s)) (length s) Bad (defect s) (caveat_map s) (map_in s) (read_count s 0 5 2 2 6) (count_in s 0 5 2 2 6 (omega arith))
-
--- the one reading
-parts_in : (size : ℕ) (parts : CaveatParts) → CaveatIn size parts → ItemIn size (parts_end parts)
-parts_in size (Bad kind at) h = h
-parts_in size (Of part next) h = h
-
-pub caveat_ends_in : (s : List ℕ) → ItemIn (length s) (read_caveat s)
-caveat_ends_in s = subst (ItemIn (length s)) (caveat_map_lem s) (parts_in (length s) (caveat_of s) (caveat_in s))
-
-pub caveat_place : (s : List ℕ) {kind at : ℕ} → read_caveat s ≡ NoItem kind at → at ≤ length s
-caveat_place s e = subst (ItemIn (length s)) e (caveat_ends_in s)

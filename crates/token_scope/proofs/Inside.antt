@@ -1,28 +1,23 @@
--- Every place that the reading of a method list or a scope answers lies inside the slice, that of a defect too; see Inside and MapInside of
--- `cbor_keys`.
-use mathlib.Core.Path.{◌≡◌, subst}
+-- Every place that the reading of a method list answers lies inside the slice, that of a defect too; see Inside of `cbor_keys`.
 use mathlib.Core.List.{List}
-use Prim.{tt}
 use Prim.Native.Nat.{ℕ, ◌≤◌}
-use native.Mathlib.Omega.{arith}
 use lib.ListN.{length}
-use Rattle.cbor_heads.specs.Counts.{read_count, array_up_to, number_up_to}
+use Rattle.cbor_heads.specs.Counts.{read_count}
 use Rattle.cbor_strings.specs.Reading.{read_string}
-use Rattle.cbor_strings.specs.declared.Class.TheVariants.{Path, Upper}
+use Rattle.cbor_strings.specs.declared.Class.TheVariants.{Upper}
 use Rattle.cbor_heads.specs.declared.Count.{Count}
 use Rattle.cbor_heads.specs.declared.Count.TheVariants.{Of as Counted, Bad as NoCount}
-use Rattle.cbor_strings.proofs.Inside.{CountIn, count_in, string_in}
+use Rattle.cbor_strings.specs.declared.Content.{Content}
+use Rattle.cbor_strings.specs.declared.Content.TheVariants.{Of as Found, Bad as NoContent}
+use Rattle.cbor_strings.proofs.Inside.{CountIn, ContentIn, count_in, string_in}
 use Rattle.cbor_values.specs.declared.ListAt.{ListAt}
 use Rattle.cbor_values.specs.Reading.{items_of}
 use Rattle.cbor_values.specs.declared.Item.{Item}
 use Rattle.cbor_values.specs.declared.Item.TheVariants.{End, Bad as NoItem}
 use Rattle.cbor_values.proofs.Inside.{ItemIn, items_in}
 use Rattle.token_scope.specs.Methods.{methods_to, methods_by, methods_of, after_methods}
-use Rattle.token_scope.specs.Fields.{method_at, read_methods, scope_fields, read_scope}
-use Rattle.cbor_keys.specs.declared.Names.TheVariants.{Scope as ScopeKeys}
-use Rattle.cbor_keys.specs.ReadMap.{content_end, count_end}
-use Rattle.cbor_keys.proofs.Inside.{count_step}
-use Rattle.cbor_keys.proofs.MapInside.{content_end_in, count_end_in, defect_in, map_in}
+use Rattle.token_scope.specs.Fields.{method_at}
+use Rattle.cbor_keys.specs.ReadMap.{content_end}
 use Rattle.token_scope.specs.declared.MethodsParts.{MethodsParts}
 use Rattle.token_scope.specs.declared.MethodsParts.TheVariants.{Of, Bad}
 
@@ -30,13 +25,17 @@ abbrev pub MethodsIn : ℕ → MethodsParts → Type 0
 MethodsIn size (Of list) = (list.span.from ≤ size) × (list.span.to ≤ size)
 MethodsIn size (Bad kind at) = at ≤ size
 
+end_in : (size : ℕ) (r : Content) → ContentIn size r → ItemIn size (content_end r)
+end_in size (NoContent kind at) h = h
+end_in size (Found part) h = h.1
+
 to_in : (size count from : ℕ) → from ≤ size → (i : Item) → ItemIn size i → MethodsIn size (methods_to count from i)
 unfolding methods_to
 to_in size count from h (NoItem kind at) g = g
 to_in size count from h (End to) g = (h, g)
 
 method_in : (s : List ℕ) (at : ℕ) → at ≤ length s → ItemIn (length s) (method_at s at)
-method_in s at h = content_end_in (length s) (read_string s at Upper 1 16) (string_in s at Upper 1 16 h)
+method_in s at h = end_in (length s) (read_string s at Upper 1 16) (string_in s at Upper 1 16 h)
 
 methods_by_lem : (s : List ℕ) (c : Count) → CountIn (length s) c → MethodsIn (length s) (methods_by s c)
 unfolding methods_by
@@ -52,22 +51,3 @@ pub methods_step : {A : Type 0} (P : A → Type 0) (size : ℕ) (bad : ℕ → �
     → ((list : ListAt) → list.span.from ≤ size → list.span.to ≤ size → P (rest list)) → (m : MethodsParts) → MethodsIn size m → P (after_methods bad rest m)
 methods_step P size bad defect rest go (Bad kind at) h = defect kind at h
 methods_step P size bad defect rest go (Of list) h = go list h.0 h.1
-
--- the one readings
-module _ (s : List ℕ) where
-  prefix_in : (before : List ℕ) (at : ℕ) → at ≤ length s → ItemIn (length s) (content_end (read_string s at Path 1 256))
-  prefix_in before at h = content_end_in (length s) (read_string s at Path 1 256) (string_in s at Path 1 256 h)
-
-  read_methods_in : (before : List ℕ) (at : ℕ) → at ≤ length s → ItemIn (length s) (read_methods s at)
-  read_methods_in before at h =
-      count_step (ItemIn (length s)) (length s) NoItem (defect_in (length s)) (items_of (method_at s)) (items_in (length s) (method_at s) (method_in s))
-      (array_up_to 16 s at) (count_in s at 4 0 16 5 h)
-
-  limit_in : (before : List ℕ) (at : ℕ) → at ≤ length s → ItemIn (length s) (count_end (number_up_to 0xffffffffffffffff s at))
-  limit_in before at h = count_end_in (length s) (number_up_to 0xffffffffffffffff s at) (count_in s at 0 0 0xffffffffffffffff 5 h)
-
-pub scope_in : (s : List ℕ) (at : ℕ) → at ≤ length s → ItemIn (length s) (read_scope s at)
-scope_in s = map_in ScopeKeys (scope_fields s) s (prefix_in s, (read_methods_in s, (limit_in s, tt)))
-
-pub scope_place : (s : List ℕ) {kind at : ℕ} → read_scope s 0 ≡ NoItem kind at → at ≤ length s
-scope_place s e = subst (ItemIn (length s)) e (scope_in s 0 (omega arith))

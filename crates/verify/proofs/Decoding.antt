@@ -16,7 +16,6 @@ use Rattle.text_reading.specs.declared.Decoded.{Decoded}
 use Rattle.text_reading.specs.declared.Decoded.TheVariants.{Bytes, Bad, Short}
 use Rattle.text_reading.proofs.TextLaws.{whole_length}
 use Rattle.records_request.specs.declared.RequestAt.{RequestAt}
-use Rattle.verify.specs.Findings.{answered, plain}
 use Rattle.verify.specs.Verifying.{bytes_judged, decoded_judged, text_judged}
 
 -- bytes were told: the text is whole, and the room holds them
@@ -55,7 +54,7 @@ module _ (text entry : List ℕ) (r : Decoded) (exit : List ℕ) (f : Filled tex
   lent_short l = let t = told.fits in rw length-take (omega arith)
 
 module _ (table text body : List ℕ) (q : RequestAt) where
-  pub too_long : 5462 < length text → plain 5 ≡ text_judged table text body q
+  pub too_long : 5462 < length text → 5 ≡ text_judged table text body q
   unfolding text_judged
   too_long h = rw (lt-ltb 5462 (length text) h)
 
@@ -64,11 +63,11 @@ module _ (table text body : List ℕ) (q : RequestAt) where
     unfolding text_judged
     decoded = rw (le-ltb 5462 (length text) h, ← l, f.answer)
 
-    pub not_text : {at : ℕ} → r ≡ Bad at → answered 3 at ≡ text_judged table text body q
+    pub not_text : {at : ℕ} → r ≡ Bad at → 3 ≡ text_judged table text body q
     unfolding decoded_judged
     not_text e = rw e at decoded
 
-    pub no_room : r ≡ Short → plain 5 ≡ text_judged table text body q
+    pub no_room : r ≡ Short → 5 ≡ text_judged table text body q
     unfolding decoded_judged
     no_room e = rw e at decoded
 

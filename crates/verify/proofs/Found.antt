@@ -13,7 +13,6 @@ use Rattle.token.specs.declared.TokenParts.TheVariants.{Of, Bad}
 use Rattle.token.proofs.TokenRead.{token_read}
 use Rattle.verify_walk.specs.Walking.{key_judged}
 use Rattle.verify_walk.specs.Ready.{Ready}
-use Rattle.verify.specs.Findings.{answered, plain}
 use Rattle.verify.specs.Verifying.{key_found, token_judged, bytes_judged}
 
 -- what a token that was read keeps
@@ -27,19 +26,19 @@ read_ready s e b l {key} k =
     }
 
 module _ (table s body : List ℕ) (q : RequestAt) where
-  pub unreadable : {kind at : ℕ} → token_of s ≡ Bad kind at → answered kind at ≡ bytes_judged table s body q
+  pub unreadable : {kind at : ℕ} → token_of s ≡ Bad kind at → kind ≡ bytes_judged table s body q
   unfolding bytes_judged token_judged
   unreadable e = rw e
 
   module _ {p : TokenAt} (e : token_of s ≡ Of p) {t k key : List ℕ} (et : t ≡ between s p.tid) (ek : k ≡ between s p.kid) (ef : key ≡ find_from 64 table t k 0) where
-    found : plain (key_found key s p body q) ≡ bytes_judged table s body q
+    found : key_found key s p body q ≡ bytes_judged table s body q
     unfolding bytes_judged token_judged
     found = rw (e, ef, et, ek)
 
-    pub with_its_key : length key ≡ 32 → plain (key_judged key s p body q) ≡ bytes_judged table s body q
+    pub with_its_key : length key ≡ 32 → key_judged key s p body q ≡ bytes_judged table s body q
     unfolding key_found
     with_its_key l = rw (eq-eqb (length key) 32 l) at found
 
-    pub no_key : (length key ≡ 32 → ⊥) → plain 7 ≡ bytes_judged table s body q
+    pub no_key : (length key ≡ 32 → ⊥) → 7 ≡ bytes_judged table s body q
     unfolding key_found
     no_key l = rw (ne_eqb (length key) 32 l) at found

@@ -34,10 +34,8 @@ use Rattle.rules.specs.Judging.{scope_judged, caveat_held, failing_of, caveat_ju
 use Rattle.records_request.specs.declared.RequestAt.{RequestAt}
 use Rattle.verify_walk.specs.Walking.{so_far, after_caveat, over_then, over_caveats, walk_bad, walk_add, walked_of, scope_kind, scope_then, scope_answered, tenant_judged, link_first, key_judged}
 use Rattle.verify_walk.specs.declared.Walked.{Walked}
-use Rattle.verify.specs.Findings.{plain}
 use Rattle.verify.specs.Verifying.{key_found, key_of, token_judged, bytes_judged, decoded_judged, text_judged, request_judged, verify_of}
 use Rattle.token.specs.declared.TokenAt.{TokenAt}
-use Rattle.verify.specs.declared.Finding.{Finding}
 
 abbrev Low : ℕ → Type 0
 Low n = n < 22
@@ -102,34 +100,31 @@ key_low key s p body q =
     (so_far_low scope w.answer (scope_low s p.scope.from body q) (walked_low p.caveats.count s key body q tid p.caveats.span.from _ (omega arith)))
     (omega arith)) (omega arith)
 
-abbrev LowIn : Finding → Type 0
-LowIn found = Low found.answer
-
-bytes_low : (table s body : List ℕ) (q : RequestAt) → LowIn (bytes_judged table s body q)
+bytes_low : (table s body : List ℕ) (q : RequestAt) → Low (bytes_judged table s body q)
 unfolding bytes_judged token_judged key_found
 bytes_low table s body q = by (token_of s) refl
   where
-    by : (p : TokenParts) → token_of s ≡ p → LowIn (token_judged table s body q p)
+    by : (p : TokenParts) → token_of s ≡ p → Low (token_judged table s body q p)
     by (NoToken kind a) e = omega (arith, (token_kind s e).1)
     by (TokenIs p) e =
         let key = key_of table s p in
         either Low {x = key_judged key s p body q} {y = 7} (eqb (length key) 32) (key_low key s p body q) (omega arith)
 
-text_low : (table text body : List ℕ) (q : RequestAt) → LowIn (text_judged table text body q)
+text_low : (table text body : List ℕ) (q : RequestAt) → Low (text_judged table text body q)
 unfolding text_judged decoded_judged
 text_low table text body q =
-    either LowIn {x = plain 5} {y = decoded_judged table text body q (decoded_of (judged_of text) 4096)} (ltb 5462 (length text)) (omega arith) (by (decoded_of (judged_of text) 4096))
+    either Low {x = 5} {y = decoded_judged table text body q (decoded_of (judged_of text) 4096)} (ltb 5462 (length text)) (omega arith) (by (decoded_of (judged_of text) 4096))
   where
-    by : (d : Decoded) → LowIn (decoded_judged table text body q d)
+    by : (d : Decoded) → Low (decoded_judged table text body q d)
     by (NoText a) = omega arith
     by Short = omega arith
     by (Bytes n) = bytes_low table (bytes_of text) body q
 
-pub verify_low : (table request token : List ℕ) → (verify_of table request token).answer < 22
+pub verify_low : (table request token : List ℕ) → verify_of table request token < 22
 unfolding verify_of request_judged
 verify_low table request token =
-    either LowIn {x = request_judged table request token (request_of request)} {y = plain 1} (table_ok table) (by (request_of request)) (omega arith)
+    either Low {x = request_judged table request token (request_of request)} {y = 1} (table_ok table) (by (request_of request)) (omega arith)
   where
-    by : (r : RequestParts) → LowIn (request_judged table request token r)
+    by : (r : RequestParts) → Low (request_judged table request token r)
     by NoRequest = omega arith
     by (RequestIs q) = text_low table token request q

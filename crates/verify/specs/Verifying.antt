@@ -17,8 +17,6 @@ use Rattle.records_request.specs.declared.RequestParts.TheVariants.{Of as Reques
 use Rattle.records_request.specs.declared.RequestAt.{RequestAt}
 use Rattle.token.specs.declared.TokenAt.{TokenAt}
 use Rattle.verify_walk.specs.Walking.{key_judged}
-use Rattle.verify.specs.declared.Finding.{Finding}
-use Rattle.verify.specs.Findings.{answered, plain}
 
 -- 7: keys are 32 bytes, and none is found where there is no such row
 unfoldable pub key_found : List ℕ → List ℕ → TokenAt → List ℕ → RequestAt → ℕ
@@ -28,28 +26,28 @@ abbrev pub key_of : List ℕ → List ℕ → TokenAt → List ℕ
 key_of table s p = find_from rows_most table (between s p.tid) (between s p.kid) 0
 
 -- 4 to 6
-unfoldable pub token_judged : List ℕ → List ℕ → List ℕ → RequestAt → TokenParts → Finding
-token_judged table s body q (NoToken kind at) = answered kind at
-token_judged table s body q (TokenIs p) = plain (key_found (key_of table s p) s p body q)
+unfoldable pub token_judged : List ℕ → List ℕ → List ℕ → RequestAt → TokenParts → ℕ
+token_judged table s body q (NoToken kind at) = kind
+token_judged table s body q (TokenIs p) = key_found (key_of table s p) s p body q
 
-unfoldable pub bytes_judged : List ℕ → List ℕ → List ℕ → RequestAt → Finding
+unfoldable pub bytes_judged : List ℕ → List ℕ → List ℕ → RequestAt → ℕ
 bytes_judged table s body q = token_judged table s body q (token_of s)
 
 -- 3; that the bytes of 5,462 characters do not fit cannot be
-unfoldable pub decoded_judged : List ℕ → List ℕ → List ℕ → RequestAt → Decoded → Finding
-decoded_judged table text body q (NoText at) = answered 3 at
-decoded_judged table text body q Short = plain 5
+unfoldable pub decoded_judged : List ℕ → List ℕ → List ℕ → RequestAt → Decoded → ℕ
+decoded_judged table text body q (NoText at) = 3
+decoded_judged table text body q Short = 5
 decoded_judged table text body q (Bytes n) = bytes_judged table (bytes_of text) body q
 
--- "text over 5,462 characters (5)", before any character is looked at; 02, M-104: it "carries 0"
-unfoldable pub text_judged : List ℕ → List ℕ → List ℕ → RequestAt → Finding
-text_judged table text body q = pick (ltb text_most (length text)) (plain 5) (decoded_judged table text body q (decoded_of (judged_of text) token_most))
+-- "text over 5,462 characters (5)", before any character is looked at
+unfoldable pub text_judged : List ℕ → List ℕ → List ℕ → RequestAt → ℕ
+text_judged table text body q = pick (ltb text_most (length text)) 5 (decoded_judged table text body q (decoded_of (judged_of text) token_most))
 
 -- 2
-unfoldable pub request_judged : List ℕ → List ℕ → List ℕ → RequestParts → Finding
-request_judged table body text NoRequest = plain 2
+unfoldable pub request_judged : List ℕ → List ℕ → List ℕ → RequestParts → ℕ
+request_judged table body text NoRequest = 2
 request_judged table body text (RequestIs q) = text_judged table text body q
 
 -- 1
-unfoldable pub verify_of : List ℕ → List ℕ → List ℕ → Finding
-verify_of table request token = pick (table_ok table) (request_judged table request token (request_of request)) (plain 1)
+unfoldable pub verify_of : List ℕ → List ℕ → List ℕ → ℕ
+verify_of table request token = pick (table_ok table) (request_judged table request token (request_of request)) 1

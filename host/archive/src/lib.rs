@@ -9,21 +9,12 @@ pub struct Hashed {
     pub bytes: [u8; 32],
 }
 
-/// What `include/bhinorpa.h` calls `struct bhinorpa_judged`.
-#[repr(C)]
-#[derive(Clone, Copy, Debug, PartialEq, Eq)]
-pub struct Judged {
-    pub answer: u32,
-    pub offset: u64,
-}
-
 /// What `include/bhinorpa.h` calls `struct bhinorpa_written`.
 #[repr(C)]
 #[derive(Clone, Copy, Debug, PartialEq, Eq)]
 pub struct Written {
     pub answer: u32,
     pub length: u32,
-    pub offset: u64,
 }
 
 extern "C" {
@@ -34,7 +25,7 @@ extern "C" {
         request_len: usize,
         token: *const u8,
         token_len: usize,
-    ) -> Judged;
+    ) -> u32;
     fn bhinorpa_issue(
         table: *const u8,
         table_len: usize,
@@ -60,8 +51,8 @@ extern "C" {
     fn bhinorpa_keyed_hash(key: *const u8, key_len: usize, message: *const u8, message_len: usize) -> Hashed;
 }
 
-/// Document 01's number for a token's text, 0 to 21, against a key table and a request, and document 02's offset.
-pub fn verify(table: &[u8], request: &[u8], token: &[u8]) -> Judged {
+/// Document 01's number for a token's text, 0 to 21, against a key table and a request.
+pub fn verify(table: &[u8], request: &[u8], token: &[u8]) -> u32 {
     // SAFETY: all ranges are those of live slices, which the callee only reads.
     unsafe {
         bhinorpa_verify(

@@ -9,10 +9,10 @@ use std::time::Instant;
 
 use checks::cases::Triple;
 use checks::samples;
-use second::verify::{verify_with, Judged};
+use second::verify::verify_with;
 
 type Hash = fn(&[u8; 32], &[u8]) -> [u8; 32];
-type Verify = fn(&[u8], &[u8], &[u8]) -> Judged;
+type Verify = fn(&[u8], &[u8], &[u8]) -> u32;
 /// So many calls, and how long they took, in nanoseconds.
 type Run = Box<dyn FnMut(usize) -> u128>;
 
@@ -41,10 +41,7 @@ fn hash_of(whose: &str) -> Hash {
 /// The second program under a plain hash or the official one, beside the proved verify.
 fn verify_of(whose: &str) -> Verify {
     match whose {
-        "proved" => |table, request, token| {
-            let archive::Judged { answer, offset } = archive::verify(table, request, token);
-            Judged { answer, offset }
-        },
+        "proved" => archive::verify,
         "plain" => |table, request, token| verify_with(plain::keyed_hash, table, request, token),
         "official" => |table, request, token| verify_with(official, table, request, token),
         other => panic!("no verify is called {other}"),
@@ -78,7 +75,7 @@ fn verdicts(whose: &str, caveats: &str) -> Run {
         count => samples::of_caveats(count.parse().expect("CAVEATS is a number")),
     };
     let Triple { table, request, text } = case.laid();
-    assert_eq!(verify(&table, &request, &text).answer, 0, "the sample is allowed");
+    assert_eq!(verify(&table, &request, &text), 0, "the sample is allowed");
     run_of(move || {
         black_box(verify(black_box(&table), black_box(&request), black_box(&text)));
     })

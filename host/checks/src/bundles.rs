@@ -84,14 +84,14 @@ pub fn triples(count: usize, seeded: &mut Seeded) -> (Bundle, String) {
         let first = seeded.below(FAULTS.len() + 3);
         let behind = FAULTS.iter().skip(first + 1).filter(|_| seeded.below(3) == 0);
         let faults: Vec<Fault> = FAULTS.iter().skip(first).take(1).chain(behind).copied().collect();
-        let (triple, (number, _)) = faulty(&faults, seeded);
+        let (triple, answer) = faulty(&faults, seeded);
         let mut state = vec![(TABLE, triple.table), (REQUEST, triple.request)];
         if seeded.below(2) == 0 {
             state.swap(0, 1);
         }
         state.push((TOKEN, triple.text));
         if bundle.add(state) {
-            lines += &line(number);
+            lines += &line(answer);
         }
     }
     (bundle, lines)
@@ -139,7 +139,7 @@ impl Pool {
         let case = &self.cases[case];
         let text = case.laid().text;
         match seeded.below(12) {
-            0 => bad_text(&text, seeded).0,
+            0 => bad_text(&text, seeded),
             1 => spoiled(&text, seeded),
             2 => case.with_token(&spoiled(&case.token(), seeded)).text,
             3 => {

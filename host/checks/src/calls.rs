@@ -3,9 +3,6 @@
 
 use std::collections::BTreeMap;
 
-use second::Written;
-
-use crate::answers::{may_be, Answer};
 use crate::beside::pattern;
 use crate::inputs::hex;
 use crate::Seeded;
@@ -30,25 +27,22 @@ pub struct Narrow {
     pub caveat: Vec<u8>,
 }
 
-/// A call that both sides can be asked; each answers with a number, a length and an offset.
+/// A call that both sides can be asked; each answers with a number and a length.
 pub trait Call {
-    fn proved(&self, room: &mut [u8]) -> Written;
-    fn wanted(&self, room: &mut [u8]) -> Written;
+    fn proved(&self, room: &mut [u8]) -> (u32, u32);
+    fn wanted(&self, room: &mut [u8]) -> (u32, u32);
     fn said(&self) -> String;
 }
 
-/// What the archive hands back, in the second program's words.
-pub fn told(archive::Written { answer, length, offset }: archive::Written) -> Written {
-    Written { answer, length, offset }
-}
-
 impl Call for Issue {
-    fn proved(&self, room: &mut [u8]) -> Written {
-        told(archive::issue(&self.table, &self.tid, &self.kid, &self.scope, room))
+    fn proved(&self, room: &mut [u8]) -> (u32, u32) {
+        let written = archive::issue(&self.table, &self.tid, &self.kid, &self.scope, room);
+        (written.answer, written.length)
     }
 
-    fn wanted(&self, room: &mut [u8]) -> Written {
-        second::issue(&self.table, &self.tid, &self.kid, &self.scope, room)
+    fn wanted(&self, room: &mut [u8]) -> (u32, u32) {
+        let written = second::issue(&self.table, &self.tid, &self.kid, &self.scope, room);
+        (written.answer, written.length)
     }
 
     fn said(&self) -> String {
@@ -58,12 +52,14 @@ impl Call for Issue {
 }
 
 impl Call for Narrow {
-    fn proved(&self, room: &mut [u8]) -> Written {
-        told(archive::narrow(&self.table, &self.text, &self.caveat, room))
+    fn proved(&self, room: &mut [u8]) -> (u32, u32) {
+        let written = archive::narrow(&self.table, &self.text, &self.caveat, room);
+        (written.answer, written.length)
     }
 
-    fn wanted(&self, room: &mut [u8]) -> Written {
-        second::narrow(&self.table, &self.text, &self.caveat, room)
+    fn wanted(&self, room: &mut [u8]) -> (u32, u32) {
+        let written = second::narrow(&self.table, &self.text, &self.caveat, room);
+        (written.answer, written.length)
     }
 
     fn said(&self) -> String {
@@ -79,39 +75,26 @@ pub struct Calls {
 }
 
 impl Calls {
-    /// What both sides hand out into a room of this length: a text, or the number of a refusal and its offset.
-    pub fn placed(&mut self, call: &impl Call, length: usize) -> Result<Vec<u8>, Answer> {
+    /// What both sides hand out into a room of this length: a text or the number of a refusal.
+    pub fn call(&mut self, call: &impl Call, length: usize) -> Result<Vec<u8>, u32> {
         let whole = pattern(length + 2 * ABOUT);
         let (mut proved, mut wanted) = (whole.clone(), whole);
         let inside = ABOUT..ABOUT + length;
         let said = call.proved(&mut proved[inside.clone()]);
-        let written = call.wanted(&mut wanted[inside.clone()]);
-        assert_eq!(said, written, "room of {length}, {}", call.said());
+        let (answer, written) = call.wanted(&mut wanted[inside.clone()]);
+        assert_eq!(said, (answer, written), "room of {length}, {}", call.said());
         if proved != wanted {
             let at = proved.iter().zip(&wanted).position(|(x, y)| x != y);
             panic!("room of {length} differs at {:?} less {ABOUT}, {}", at, call.said());
         }
-        let answer = (written.answer, written.offset);
-        assert!(may_be(answer), "both say {answer:?} of {}", call.said());
-        *self.counts.entry(written.answer).or_default() += 1;
-        let text = &proved[inside][..written.length as usize];
-        if written.answer == 0 { Ok(text.to_vec()) } else { Err(answer) }
-    }
-
-    /// The same without the offset, in which both sides agree too.
-    pub fn call(&mut self, call: &impl Call, length: usize) -> Result<Vec<u8>, u32> {
-        self.placed(call, length).map_err(|(number, _)| number)
+        *self.counts.entry(answer).or_default() += 1;
+        let text = &proved[inside][..written as usize];
+        if answer == 0 { Ok(text.to_vec()) } else { Err(answer) }
     }
 
     /// The same of a call that was made to be answered so; what both sides have wrong shows here.
     pub fn expect(&mut self, call: &impl Call, length: usize, wanted: u32) {
         let answer = self.call(call, length).err().unwrap_or(0);
-        assert_eq!(answer, wanted, "both with room of {length} on {}", call.said());
-    }
-
-    /// The same where it is known, too, at which place it was made wrong.
-    pub fn expect_at(&mut self, call: &impl Call, length: usize, wanted: Answer) {
-        let answer = self.placed(call, length).err().unwrap_or((0, 0));
         assert_eq!(answer, wanted, "both with room of {length} on {}", call.said());
     }
 

@@ -4,7 +4,6 @@
 use second::chain::official;
 use second::{base64url, records};
 
-use crate::answers::{at, plain, Answer};
 use crate::cases::{fitting_for, shorten, Case, Triple, CAVEATS};
 use crate::fitting::{self, Broken, NUMBERS};
 use crate::inputs;
@@ -55,7 +54,7 @@ const KID: usize = 9;
 const STRANGE: &[u8; 12] = b"=+/ \n\0.,~\x7f\x80\xff";
 
 /// A triple with these faults, and the answer that the first of them must get.
-pub fn faulty(faults: &[Fault], seeded: &mut Seeded) -> (Triple, Answer) {
+pub fn faulty(faults: &[Fault], seeded: &mut Seeded) -> (Triple, u32) {
     let is = |fault| faults.contains(&fault);
     let mut request = requests::any(seeded);
     if is(Fault::Bytes) {
@@ -65,20 +64,17 @@ pub fn faulty(faults: &[Fault], seeded: &mut Seeded) -> (Triple, Answer) {
     let broken = Broken { method: is(Fault::Method), path: is(Fault::Path), bytes: is(Fault::Bytes) };
     case.scope = fitting::scope(broken, &case.request, seeded);
     let caveat = if is(Fault::Caveat) { break_caveat(&mut case, seeded) } else { 0 };
-    let (triple, [text, reading]) = laid_with(case, faults, seeded);
-    let [table, request, length, key, tag, tenant] = [1, 2, 5, 7, 8, 9].map(plain);
-    let [method, path, bytes, caveat] = [10, 11, 12, caveat].map(plain);
-    let answers = [table, request, length, text, reading, key, tag, tenant, method, path, bytes, caveat];
+    let (triple, reading) = laid_with(case, faults, seeded);
+    let numbers = [1, 2, 5, 3, reading, 7, 8, 9, 10, 11, 12, caveat];
     let first = FAULTS.iter().position(|&fault| is(fault));
-    (triple, first.map_or(plain(0), |first| answers[first]))
+    (triple, first.map_or(0, |first| numbers[first]))
 }
 
-/// The case as it lies with those of these faults that are not of its scope and its caveats, and the answers
-/// that go with those of its text and of reading.
-pub fn laid_with(case: Case, faults: &[Fault], seeded: &mut Seeded) -> (Triple, [Answer; 2]) {
+/// The case as it lies with those of these faults that are not of its scope and its caveats, and the number
+/// that goes with the one of reading.
+pub fn laid_with(case: Case, faults: &[Fault], seeded: &mut Seeded) -> (Triple, u32) {
     let (token, reading) = token(&case, faults, seeded);
-    let (triple, text) = lay(case, &token, faults, seeded);
-    (triple, [text, reading])
+    (lay(case, &token, faults, seeded), reading)
 }
 
 /// Puts a caveat that does not hold behind some that do and before some of which nothing is said, and
@@ -101,21 +97,21 @@ fn break_caveat(case: &mut Case, seeded: &mut Seeded) -> u32 {
     NUMBERS[kind]
 }
 
-/// The token, its tag wrong or right, and bytes that do not read if they are to; and the answer to that.
-fn token(case: &Case, faults: &[Fault], seeded: &mut Seeded) -> (Vec<u8>, Answer) {
+/// The token, its tag wrong or right, and bytes that do not read if they are to; and the number of that.
+fn token(case: &Case, faults: &[Fault], seeded: &mut Seeded) -> (Vec<u8>, u32) {
     let tag = if faults.contains(&Fault::Tag) { wrong_tag(case, seeded) } else { case.tag().to_vec() };
     let mut tree = case.tree(&tag);
     if !faults.contains(&Fault::Reading) {
-        return (tree.laid(), plain(0));
+        return (tree.laid(), 0);
     }
-    let (item, other, number) = match seeded.below(4) {
+    let (at, item, number) = match seeded.below(4) {
         0 => (KID, Node::text(&[b'k'; 65]), 5),
         1 => (V, Node::number(2 + inputs::number(seeded) / 2), 6),
         2 => (V, Node::negative(1), 4),
-        _ => return ([&tree.laid()[..], b"\0"].concat(), at(4, tree.laid().len())),
+        _ => return ([&tree.laid()[..], b"\0"].concat(), 4),
     };
-    tree.items[item] = other;
-    (tree.laid(), at(number, tree.place(&[item])))
+    tree.items[at] = item;
+    (tree.laid(), number)
 }
 
 /// One that is off by a bit, nothing, under another key, of fewer caveats, of other order, or over the
@@ -135,9 +131,8 @@ fn wrong_tag(case: &Case, seeded: &mut Seeded) -> Vec<u8> {
     if tag == right { off.to_vec() } else { tag.to_vec() }
 }
 
-/// The case as it lies, with what is wrong outside the token put in, and the answer to what is in the text.
-fn lay(mut case: Case, token: &[u8], faults: &[Fault], seeded: &mut Seeded) -> (Triple, Answer) {
-    let mut answer = plain(0);
+/// The case as it lies, with what is wrong outside the token put in.
+fn lay(mut case: Case, token: &[u8], faults: &[Fault], seeded: &mut Seeded) -> Triple {
     let is = |fault| faults.contains(&fault);
     if is(Fault::Tenant) {
         case.request.tenant = strings::other_name(&case.request.tenant, seeded);
@@ -153,13 +148,13 @@ fn lay(mut case: Case, token: &[u8], faults: &[Fault], seeded: &mut Seeded) -> (
         triple.request = bad_request(&case, seeded);
     }
     if is(Fault::Text) {
-        (triple.text, answer) = bad_text(&triple.text, seeded);
+        triple.text = bad_text(&triple.text, seeded);
     }
     if is(Fault::Length) {
         let length = [5463, 5464, 6000, 8192, 65_536, 65_540, 70_000][seeded.below(7)];
         triple.text.resize(length.max(triple.text.len()), [b'A', b'='][seeded.below(2)]);
     }
-    (triple, answer)
+    triple
 }
 
 /// The rows with something wrong among them or behind them.
@@ -200,31 +195,23 @@ pub fn bad_request(case: &Case, seeded: &mut Seeded) -> Vec<u8> {
     request.laid()
 }
 
-/// A text that is none: a byte that it may not hold, padding, a length that none has, unused bits; and the answer.
-pub fn bad_text(text: &[u8], seeded: &mut Seeded) -> (Vec<u8>, Answer) {
+/// A text that is none: a byte that it may not hold, padding, a length that none has, unused bits.
+pub fn bad_text(text: &[u8], seeded: &mut Seeded) -> Vec<u8> {
     let mut bad = text.to_vec();
     let strange = STRANGE[seeded.below(STRANGE.len())];
-    let place = match seeded.below(4) {
-        0 => {
-            bad.resize(text.len() + 1 + (8 - text.len() % 4) % 4, b'A');
-            bad.len()
-        }
+    match seeded.below(4) {
+        0 => bad.resize(text.len() + 1 + (8 - text.len() % 4) % 4, b'A'),
         1 if text.len() % 4 > 1 => {
             // The letter that stands behind this one in the alphabet, so that the lowest bit is set.
             let last = base64url::decode(&[b"AAA", &text[text.len() - 1..]].concat()).map_or(0, |bytes| bytes[2]);
             let next = base64url::encode(&[0, 0, last | 1]);
             *bad.last_mut().expect("a text that is not empty") = next[3];
-            text.len() - 1
         }
-        2 => {
-            bad.push(strange);
-            text.len()
-        }
+        2 => bad.push(strange),
         _ => {
-            let place = seeded.below(text.len());
-            bad[place] = strange;
-            place
+            let at = seeded.below(text.len());
+            bad[at] = strange;
         }
-    };
-    (bad, at(3, place))
+    }
+    bad
 }

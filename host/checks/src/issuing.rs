@@ -1,7 +1,6 @@
 //! Calls of issue, from a seed, and what is wrong with them. Things are put wrong independently of each
 //! other, so that any number of them may stand together and the first one counts.
 
-use crate::answers::{at, plain, Answer};
 use crate::calls::{characters, room, Issue};
 use crate::cases::{fitting, Case};
 use crate::faults::bad_table;
@@ -37,12 +36,12 @@ pub fn call(case: &Case) -> Issue {
 }
 
 /// A call with these things wrong, how long its room is, and the answer that the first of them must get.
-pub fn wrong(wrongs: &[Wrong], seeded: &mut Seeded) -> (Issue, usize, Answer) {
+pub fn wrong(wrongs: &[Wrong], seeded: &mut Seeded) -> (Issue, usize, u32) {
     let is = |wrong| wrongs.contains(&wrong);
     let case = fresh(seeded);
     let mut asked = call(&case);
     let room = room(characters(case.length()), is(Wrong::Room), seeded);
-    let mut reading = plain(0);
+    let mut reading = 0;
     if is(Wrong::Table) {
         asked.table = bad_table(&case.rows, seeded);
     }
@@ -52,9 +51,9 @@ pub fn wrong(wrongs: &[Wrong], seeded: &mut Seeded) -> (Issue, usize, Answer) {
     if is(Wrong::Ids) {
         (asked.tid, asked.kid) = other_ids(&case, seeded);
     }
-    let answers = [plain(1), reading, plain(7), plain(36)];
+    let numbers = [1, reading, 7, 36];
     let first = WRONGS.iter().position(|&wrong| is(wrong));
-    (asked, room, first.map_or(plain(0), |first| answers[first]))
+    (asked, room, first.map_or(0, |first| numbers[first]))
 }
 
 /// Ids that no row has, many of which none can have.
@@ -64,9 +63,8 @@ fn other_ids(case: &Case, seeded: &mut Seeded) -> (Vec<u8>, Vec<u8>) {
     ids.swap_remove(seeded.below(ids.len()))
 }
 
-/// A scope that is none, and its answer. The first value lies behind "prefix" at 8 and behind "methods" at 9, and
-/// what follows an empty list of methods at 10, as does what is in a list.
-fn bad_scope(good: &Node, seeded: &mut Seeded) -> (Vec<u8>, Answer) {
+/// A scope that is none, and its number.
+fn bad_scope(good: &Node, seeded: &mut Seeded) -> (Vec<u8>, u32) {
     let laid = good.laid();
     let prefix = |length| ("prefix", Node::text(&vec![b'/'; length]));
     let methods = |methods| Node::map(vec![("methods", methods)]);
@@ -74,19 +72,19 @@ fn bad_scope(good: &Node, seeded: &mut Seeded) -> (Vec<u8>, Answer) {
     let more = 1 + seeded.below(3);
     let behind = seeded.bytes(more);
     let scopes = [
-        ([&laid[..], &behind].concat(), at(4, laid.len())),
-        (laid.repeat(2), at(4, laid.len())),
-        (laid[..laid.len() - 1].to_vec(), at(4, good.last_place())),
-        (vec![], at(4, 0)),
-        (good.under(inputs::wide_head(5, good.number, 1)).laid(), at(4, 0)),
-        (methods(Node::array(vec![Node::text(b"GEt")])).laid(), at(4, 11)),
-        (Node::map(vec![prefix(1)]).laid(), at(4, 0)),
-        (Node::map(vec![prefix([0, 257][seeded.below(2)])]).laid(), at(5, 8)),
-        (methods(Node::array(vec![]).saying(17)).laid(), at(5, 9)),
-        (methods(Node::array(vec![Node::text(&[b'M'; 17])])).laid(), at(5, 10)),
-        (good.saying(4).laid(), at(6, 0)),
-        (unknown("kid").laid(), at(6, 10)),
-        (unknown("max-bytes").laid(), at(6, 10)),
+        ([&laid[..], &behind].concat(), 4),
+        (laid.repeat(2), 4),
+        (laid[..laid.len() - 1].to_vec(), 4),
+        (vec![], 4),
+        (good.under(inputs::wide_head(5, good.number, 1)).laid(), 4),
+        (methods(Node::array(vec![Node::text(b"GEt")])).laid(), 4),
+        (Node::map(vec![prefix(1)]).laid(), 4),
+        (Node::map(vec![prefix([0, 257][seeded.below(2)])]).laid(), 5),
+        (methods(Node::array(vec![]).saying(17)).laid(), 5),
+        (methods(Node::array(vec![Node::text(&[b'M'; 17])])).laid(), 5),
+        (good.saying(4).laid(), 6),
+        (unknown("kid").laid(), 6),
+        (unknown("max-bytes").laid(), 6),
     ];
     scopes[seeded.below(scopes.len())].clone()
 }

@@ -1,7 +1,6 @@
 //! What the tests share: numbers from a seed, the same on every machine and in every run;
 //! inputs made from them; what is done to these; and the proved functions beside the second program's.
 
-pub mod answers;
 pub mod beside;
 pub mod bundles;
 pub mod calls;
@@ -15,7 +14,6 @@ pub mod issuing;
 pub mod judges;
 pub mod narrowing;
 mod parts;
-pub mod places;
 pub mod requests;
 pub mod sample_bundle;
 pub mod samples;

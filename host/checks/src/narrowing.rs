@@ -3,7 +3,6 @@
 
 use second::base64url;
 
-use crate::answers::{at, plain, Answer};
 use crate::calls::{characters, room, Narrow};
 use crate::cases::{fitting, Case, CAVEATS};
 use crate::faults::{laid_with, Fault};
@@ -52,20 +51,19 @@ pub fn child(case: &Case, caveat: &Node) -> Case {
 }
 
 /// A call with these things wrong, how long its room is, and the answer that the first of them must get.
-pub fn wrong(wrongs: &[Wrong], seeded: &mut Seeded) -> (Narrow, usize, Answer) {
+pub fn wrong(wrongs: &[Wrong], seeded: &mut Seeded) -> (Narrow, usize, u32) {
     let is = |wrong| wrongs.contains(&wrong);
     let count = [0, 1, 2, 3, 12, 21, 22, 23, 24, 62, 63][seeded.below(11)];
     let case = fitting(if is(Wrong::Full) { CAVEATS } else { count }, seeded);
     let added = added(&case, is(Wrong::Size), seeded);
     let room = room(characters(child(&case, &added).length()), is(Wrong::Room), seeded);
-    let (caveat, cav) = if is(Wrong::Caveat) { bad_caveat(&added, seeded) } else { (added.laid(), plain(0)) };
+    let (caveat, cav) = if is(Wrong::Caveat) { bad_caveat(&added, seeded) } else { (added.laid(), 0) };
     let faults: Vec<Fault> = wrongs.iter().filter_map(of_parent).collect();
-    let (triple, [text, reading]) = laid_with(case, &faults, seeded);
-    let [table, length, key, tag] = [1, 5, 7, 8].map(plain);
-    let answers = [table, length, text, reading, key, tag, cav, plain(34), plain(35), plain(36)];
+    let (triple, reading) = laid_with(case, &faults, seeded);
+    let numbers = [1, 5, 3, reading, 7, 8, cav, 34, 35, 36];
     let first = WRONGS.iter().position(|&wrong| is(wrong));
     let asked = Narrow { table: triple.table, text: triple.text, caveat };
-    (asked, room, first.map_or(plain(0), |first| answers[first]))
+    (asked, room, first.map_or(0, |first| numbers[first]))
 }
 
 fn of_parent(wrong: &Wrong) -> Option<Fault> {
@@ -117,59 +115,58 @@ pub fn custom_of(length: usize, seeded: &mut Seeded) -> Node {
     caveat
 }
 
-/// A caveat that is none, as long as the good one about, and its answer.
-pub fn bad_caveat(good: &Node, seeded: &mut Seeded) -> (Vec<u8>, Answer) {
+/// A caveat that is none, as long as the good one about, and its number.
+pub fn bad_caveat(good: &Node, seeded: &mut Seeded) -> (Vec<u8>, u32) {
     let laid = good.laid();
     let more = 1 + seeded.below(3);
     let behind = seeded.bytes(more);
-    let with = |number: u32, item: usize, other: Node| {
+    let with = |at: usize, item: Node| {
         let mut caveat = good.clone();
-        caveat.items[item] = other;
-        (caveat.laid(), at(number, good.place(&[item])))
+        caveat.items[at] = item;
+        caveat.laid()
     };
     let unknown = ["", "Exp", "customs", "v", "ip"][seeded.below(5)];
     let caveats = [
-        ([&laid[..], &behind].concat(), at(31, laid.len())),
-        (laid.repeat(2), at(31, laid.len())),
-        ([b"\x81", &laid[..]].concat(), at(31, 0)),
-        (laid[..laid.len() - 1].to_vec(), at(31, good.last_place())),
-        (vec![], at(31, 0)),
-        (good.under(inputs::wide_head(5, 2, 1)).laid(), at(31, 0)),
-        with(31, 2, Node::text(b"t")),
-        (good.saying(1).laid(), at(31, 0)),
-        out_of_bounds(good, seeded),
-        out_of_bounds(good, seeded),
-        out_of_bounds(good, seeded),
-        out_of_bounds(good, seeded),
-        with(33, 1, Node::text(unknown.as_bytes())),
-        with(33, 2, Node::text(b"w")),
-        with(33, 0, Node::text(b"T")),
-        (good.saying(3).laid(), at(33, 0)),
+        ([&laid[..], &behind].concat(), 31),
+        (laid.repeat(2), 31),
+        ([b"\x81", &laid[..]].concat(), 31),
+        (laid[..laid.len() - 1].to_vec(), 31),
+        (vec![], 31),
+        (good.under(inputs::wide_head(5, 2, 1)).laid(), 31),
+        (with(2, Node::text(b"t")), 31),
+        (good.saying(1).laid(), 31),
+        (out_of_bounds(good, seeded), 32),
+        (out_of_bounds(good, seeded), 32),
+        (out_of_bounds(good, seeded), 32),
+        (out_of_bounds(good, seeded), 32),
+        (with(1, Node::text(unknown.as_bytes())), 33),
+        (with(2, Node::text(b"w")), 33),
+        (with(0, Node::text(b"T")), 33),
+        (good.saying(3).laid(), 33),
     ];
     caveats[seeded.below(caveats.len())].clone()
 }
 
-/// A caveat with something too long, too many, too deep or too large, and its answer: a custom one in its
-/// namespace, so that it stays as long as it is.
-fn out_of_bounds(good: &Node, seeded: &mut Seeded) -> (Vec<u8>, Answer) {
+/// A caveat with something too long, too many, too deep or too large: a custom one in its namespace, so
+/// that it stays as long as it is.
+fn out_of_bounds(good: &Node, seeded: &mut Seeded) -> Vec<u8> {
     if good.items[1].content == b"custom" {
         let mut caveat = good.clone();
         caveat.items[3].items[1] = Node::text(&vec![b'n'; [0, 65][seeded.below(2)]]);
-        return (caveat.laid(), at(32, caveat.place(&[3, 1])));
+        return caveat.laid();
     }
     let empty = seeded.below(2) == 0;
     let text = |byte: u8, over: usize| Node::text(&vec![byte; if empty { 0 } else { over }]);
     let deep = trees::nested(5, Node::number(0));
-    let demands: [(&str, Node, &[usize]); 7] = [
-        ("tenant", text(b't', 65), &[3]),
-        ("aud", text(b'a', 129), &[3]),
-        ("path_prefix", text(b'/', 257), &[3]),
-        ("method", Node::array(vec![]).saying(17), &[3]),
-        ("rate", trees::rate(1 << 32, 0), &[3, 1]),
-        ("rate", trees::rate(0, u64::MAX), &[3, 3]),
-        ("custom", trees::custom(deep, seeded), &[3, 3, 0, 0, 0, 0]),
+    let demands = [
+        ("tenant", text(b't', 65)),
+        ("aud", text(b'a', 129)),
+        ("path_prefix", text(b'/', 257)),
+        ("method", Node::array(vec![]).saying(17)),
+        ("rate", trees::rate(1 << 32, 0)),
+        ("rate", trees::rate(0, u64::MAX)),
+        ("custom", trees::custom(deep, seeded)),
     ];
-    let (t, v, path) = &demands[seeded.below(demands.len())];
-    let caveat = caveat_of(t, v.clone());
-    (caveat.laid(), at(32, caveat.place(path)))
+    let (t, v) = &demands[seeded.below(demands.len())];
+    caveat_of(t, v.clone()).laid()
 }

@@ -93,20 +93,6 @@ impl Node {
         panic!("no node {index}");
     }
 
-    /// Where the head of an item lies, counted from this node's own; `path` leads there from item to item.
-    pub fn place(&self, path: &[usize]) -> usize {
-        let Some((&item, rest)) = path.split_first() else { return 0 };
-        let before: usize = self.items[..item].iter().map(|item| item.laid().len()).sum();
-        self.head.len() + self.content.len() + before + self.items[item].place(rest)
-    }
-
-    /// The same of the item that lies last. Without its last byte a node has its defect there, whether the item
-    /// is a string that is cut, a head that is cut or a head of one byte.
-    pub fn last_place(&self) -> usize {
-        let last = self.items.len().checked_sub(1);
-        last.map_or(0, |last| self.place(&[last]) + self.items[last].last_place())
-    }
-
     /// The whole as it lies.
     pub fn laid(&self) -> Vec<u8> {
         self.laid_to(usize::MAX)

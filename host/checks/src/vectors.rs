@@ -1,6 +1,6 @@
-//! The vectors in vectors/: calls of verify, issue, narrow and the keyed hash, each with the answer that document 01
-//! gives to it, and chains link by link. The answers stand below as a person wrote them, so that what both programs
-//! have wrong shows too. The offsets are the second program's; tests/places.rs holds it to places that none finds.
+//! The vectors in vectors/: calls of verify, issue, narrow and the keyed hash, each with the answer that
+//! document 01 gives to it, and chains link by link. The answers stand in the modules below as a person wrote
+//! them; no program is asked for one, so that what both programs have wrong shows too.
 
 mod chain;
 mod hash;

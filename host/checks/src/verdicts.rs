@@ -1,6 +1,5 @@
 //! The proved verify beside the second program's, each answer counted.
 
-use crate::answers::{may_be, Answer};
 use crate::cases::Triple;
 use crate::inputs::hex;
 
@@ -14,33 +13,21 @@ pub struct Verdicts {
 }
 
 impl Verdicts {
-    /// What both sides answer, with their offset.
-    pub fn placed(&mut self, triple: &Triple) -> Answer {
+    /// What both sides answer.
+    pub fn judge(&mut self, triple: &Triple) -> u32 {
         let Triple { table, request, text } = triple;
         let wanted = second::verify(table, request, text);
         let proved = archive::verify(table, request, text);
-        let answer = (wanted.answer, wanted.offset);
-        assert_eq!((proved.answer, proved.offset), answer, "{}", said(triple));
-        assert!(may_be(answer), "both say {answer:?} of {}", said(triple));
-        self.counts[wanted.answer as usize] += 1;
-        answer
-    }
-
-    /// The number that both sides answer with; their offsets agree too.
-    pub fn judge(&mut self, triple: &Triple) -> u32 {
-        self.placed(triple).0
+        assert_eq!(proved, wanted, "{}", said(triple));
+        self.counts[wanted as usize] += 1;
+        wanted
     }
 
     /// The same of a triple that was made to be answered so; what both sides have wrong shows here.
     pub fn expect(&mut self, triple: &Triple, wanted: u32) {
-        let answer = self.judge(triple);
-        assert_eq!(answer, wanted, "both on {}", said(triple));
-    }
-
-    /// The same where it is known, too, at which place it was made wrong.
-    pub fn expect_at(&mut self, triple: &Triple, wanted: Answer) {
-        let answer = self.placed(triple);
-        assert_eq!(answer, wanted, "both on {}", said(triple));
+        let Triple { table, request, text } = triple;
+        assert_eq!(second::verify(table, request, text), wanted, "the second program on {}", said(triple));
+        self.judge(triple);
     }
 
     pub fn compared(&self) -> usize {

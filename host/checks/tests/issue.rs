@@ -38,7 +38,7 @@ fn every_answer_is_given_by_what_is_wrong_first_whatever_else_is_wrong_behind_it
         let behind = WRONGS.iter().skip(first + 1).filter(|_| seeded.below(2) == 0);
         let wrongs: Vec<Wrong> = WRONGS.iter().skip(first).take(1).chain(behind).copied().collect();
         let (asked, room, wanted) = wrong(&wrongs, &mut seeded);
-        calls.expect_at(&asked, room, wanted);
+        calls.expect(&asked, room, wanted);
     }
     calls.met(FAULTY, &ANSWERS, 300);
 }
@@ -51,7 +51,7 @@ fn every_set_of_things_wrong_and_so_every_two_checks_that_follow_each_other() {
         let chosen = WRONGS.iter().enumerate().filter(|(at, _)| turn >> at & 1 == 1);
         let wrongs: Vec<Wrong> = chosen.map(|(_, &wrong)| wrong).collect();
         let (asked, room, wanted) = wrong(&wrongs, &mut seeded);
-        calls.expect_at(&asked, room, wanted);
+        calls.expect(&asked, room, wanted);
     }
     calls.met(SETS, &ANSWERS, 100);
 }

@@ -1,7 +1,6 @@
 //! Narrow: the proved one beside the second program's, the whole room looked at. What a call is made for is
 //! held to as well, so that a slip which both share shows too.
 
-use checks::answers::at;
 use checks::calls::{Calls, Narrow};
 use checks::cases::{fitting, of_length, retagged, Case};
 use checks::edits::{changes, cuts, spoiled};
@@ -43,7 +42,7 @@ fn every_answer_is_given_by_what_is_wrong_first_whatever_else_is_wrong_behind_it
         let behind = WRONGS.iter().skip(first + 1).filter(|_| seeded.below(3) == 0);
         let wrongs: Vec<Wrong> = WRONGS.iter().skip(first).take(1).chain(behind).copied().collect();
         let (asked, room, wanted) = wrong(&wrongs, &mut seeded);
-        calls.expect_at(&asked, room, wanted);
+        calls.expect(&asked, room, wanted);
     }
     calls.met(FAULTY, &ANSWERS, 200);
 }
@@ -56,7 +55,7 @@ fn every_set_of_things_wrong() {
         let chosen = WRONGS.iter().enumerate().filter(|(at, _)| turn >> at & 1 == 1);
         let wrongs: Vec<Wrong> = chosen.map(|(_, &wrong)| wrong).collect();
         let (asked, room, wanted) = wrong(&wrongs, &mut seeded);
-        calls.expect_at(&asked, room, wanted);
+        calls.expect(&asked, room, wanted);
     }
     calls.met(SETS, &ANSWERS, 4);
 }
@@ -69,7 +68,7 @@ fn of_every_two_things_wrong_and_so_of_every_two_checks_that_follow_each_other_t
         for &second in &WRONGS[at + 1..] {
             for _ in 0..40 {
                 let (asked, room, wanted) = wrong(&[first, second], &mut seeded);
-                calls.expect_at(&asked, room, wanted);
+                calls.expect(&asked, room, wanted);
             }
         }
     }
@@ -178,20 +177,13 @@ fn long_caveats_are_too_long_for_the_token_and_never_for_the_hash() {
                 let case = fitting(count, &mut seeded);
                 calls.expect(&call(&case, &added), [0, TEXT, 4 * length][seeded.below(3)], wanted);
                 let (bad, wanted) = bad_caveat(&added, &mut seeded);
-                calls.expect_at(&Narrow { caveat: bad, ..call(&case, &added) }, TEXT, wanted);
+                calls.expect(&Narrow { caveat: bad, ..call(&case, &added) }, TEXT, wanted);
             }
         }
         let long = || Node::text(&vec![b'1'; length]);
-        for (t, number) in [("aud", 32), ("tenant", 32), ("path_prefix", 32), ("ip_cidr", 31), ("", 33)] {
+        for (t, wanted) in [("aud", 32), ("tenant", 32), ("path_prefix", 32), ("ip_cidr", 31), ("", 33)] {
             let case = fitting(seeded.below(65), &mut seeded);
-            let added = caveat_of(t, long());
-            // Its length is wrong, or its content, or the t before it.
-            let place = match number {
-                31 => added.place(&[3]) + added.items[3].head.len(),
-                32 => added.place(&[3]),
-                _ => added.place(&[1]),
-            };
-            calls.expect_at(&call(&case, &added), TEXT, at(number, place));
+            calls.expect(&call(&case, &caveat_of(t, long())), TEXT, wanted);
         }
     }
     calls.met(300, &[31, 32, 33, 34, 35], 20);
@@ -271,8 +263,7 @@ fn spoiled_texts_tags_and_caveats() {
             let mut tag = case.token();
             tag[place + seeded.below(32)] ^= 1 << seeded.below(8);
             calls.expect(&Narrow { text: base64url::encode(&tag), ..good.clone() }, TEXT, 8);
-            let (text, wanted) = bad_text(&good.text, &mut seeded);
-            calls.expect_at(&Narrow { text, ..good.clone() }, TEXT, wanted);
+            calls.expect(&Narrow { text: bad_text(&good.text, &mut seeded), ..good.clone() }, TEXT, 3);
             let text = spoiled(&good.text, &mut seeded);
             let _ = calls.call(&Narrow { text, ..good.clone() }, TEXT);
             let caveat = spoiled(&good.caveat, &mut seeded);

@@ -3,7 +3,6 @@
 //! beside the sentence put another way: a path is the prefix, or begins with the prefix and one "/" that is its last
 //! byte or follows it. And the same segment by segment.
 
-use checks::answers::{at, plain};
 use checks::cases::{fitting_for, Case};
 use checks::requests::{self, Request};
 use checks::strings;
@@ -107,14 +106,12 @@ fn every_short_prefix_and_every_short_path() {
     for prefix in &prefixes {
         for (turn, path) in paths.iter().enumerate() {
             let case = placed(prefix, path, turn % 3, &mut seeded);
-            // Where the scope's prefix begins in a token without caveats, or that of the first caveat.
-            let place = if turn % 3 == 0 { 15 } else { 22 };
             let wanted = match (strings::comes_through(path), strings::comes_through(prefix)) {
-                (false, _) => plain(CTX_BAD),
-                (true, false) => at(PARSE_CBOR, place),
-                (true, true) => plain(wanted(prefix, path)),
+                (false, _) => CTX_BAD,
+                (true, false) => PARSE_CBOR,
+                (true, true) => wanted(prefix, path),
             };
-            verdicts.expect_at(&case.laid(), wanted);
+            verdicts.expect(&case.laid(), wanted);
         }
     }
     verdicts.met(prefixes.len() * paths.len(), [0, CTX_BAD, PARSE_CBOR, PATH], 200);

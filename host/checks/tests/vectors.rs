@@ -5,10 +5,9 @@ use std::collections::{BTreeMap, BTreeSet};
 use std::fs;
 use std::path::Path;
 
-use checks::calls::told;
 use checks::vectors;
+use second::base64url;
 use second::names::name;
-use second::{base64url, Judged, Written};
 use serde_json::Value;
 
 /// What a room holds before a call; no text has such a byte.
@@ -49,17 +48,13 @@ impl Case {
         self.number("answer") as u32
     }
 
-    fn offset(&self) -> u64 {
-        self.number("offset") as u64
-    }
-
     /// What issue or narrow must hand back and leave in the room.
-    fn written(&self) -> (Written, Vec<u8>) {
+    fn written(&self) -> ((u32, u32), Vec<u8>) {
         let text = if self.answer() == 0 { self.text("text") } else { "" };
         assert_eq!(self.answer() == 0, self.0.get("text").is_some(), "{}", self.0["name"]);
         let mut room = vec![FILLER; self.number("room")];
         room[..text.len()].copy_from_slice(text.as_bytes());
-        (Written { answer: self.answer(), length: text.len() as u32, offset: self.offset() }, room)
+        ((self.answer(), text.len() as u32), room)
     }
 }
 
@@ -81,23 +76,19 @@ fn verify() {
     for case in cases("verify.json") {
         let (table, request, token) = (case.bytes("table"), case.bytes("request"), case.text("token").as_bytes());
         let name = case.text("name");
-        let archive::Judged { answer, offset } = archive::verify(&table, &request, token);
-        let wanted = Judged { answer: case.answer(), offset: case.offset() };
-        assert_eq!(Judged { answer, offset }, wanted, "the proved one on {name}");
-        assert_eq!(second::verify(&table, &request, token), wanted, "the second program on {name}");
+        assert_eq!(archive::verify(&table, &request, token), case.answer(), "the proved one on {name}");
+        assert_eq!(second::verify(&table, &request, token), case.answer(), "the second program on {name}");
     }
 }
 
-/// A program by its name, and its call into a room.
-type Program<'a> = (&'a str, &'a dyn Fn(&mut [u8]) -> Written);
-
 /// Both programs hand back what the case says and leave such a room.
-fn held(case: &Case, proved: impl Fn(&mut [u8]) -> Written, second: impl Fn(&mut [u8]) -> Written) {
-    let programs: [Program; 2] = [("the proved one", &proved), ("the second program", &second)];
-    for (program, call) in programs {
+fn held(case: &Case, proved: impl Fn(&mut [u8]) -> (u32, u32), second: impl Fn(&mut [u8]) -> (u32, u32)) {
+    let calls: [(&str, &dyn Fn(&mut [u8]) -> (u32, u32)); 2] =
+        [("the proved one", &proved), ("the second program", &second)];
+    for (program, call) in calls {
         let mut room = vec![FILLER; case.number("room")];
         let (written, (wanted, left)) = (call(&mut room), case.written());
-        assert_eq!(written, wanted, "what {program} hands back on {}", case.text("name"));
+        assert_eq!(written, wanted, "answer and length by {program} on {}", case.text("name"));
         assert!(room == left, "{program} leaves another room on {}", case.text("name"));
     }
 }
@@ -107,8 +98,15 @@ fn issue() {
     for case in cases("issue.json") {
         let (table, scope) = (case.bytes("table"), case.bytes("scope"));
         let (tid, kid) = (case.text("tid").as_bytes(), case.text("kid").as_bytes());
-        let proved = |room: &mut [u8]| told(archive::issue(&table, tid, kid, &scope, room));
-        held(&case, proved, |room| second::issue(&table, tid, kid, &scope, room));
+        let proved = |room: &mut [u8]| {
+            let written = archive::issue(&table, tid, kid, &scope, room);
+            (written.answer, written.length)
+        };
+        let second = |room: &mut [u8]| {
+            let written = second::issue(&table, tid, kid, &scope, room);
+            (written.answer, written.length)
+        };
+        held(&case, proved, second);
     }
 }
 
@@ -116,8 +114,15 @@ fn issue() {
 fn narrow() {
     for case in cases("narrow.json") {
         let (table, token, caveat) = (case.bytes("table"), case.text("token").as_bytes(), case.bytes("caveat"));
-        let proved = |room: &mut [u8]| told(archive::narrow(&table, token, &caveat, room));
-        held(&case, proved, |room| second::narrow(&table, token, &caveat, room));
+        let proved = |room: &mut [u8]| {
+            let written = archive::narrow(&table, token, &caveat, room);
+            (written.answer, written.length)
+        };
+        let second = |room: &mut [u8]| {
+            let written = second::narrow(&table, token, &caveat, room);
+            (written.answer, written.length)
+        };
+        held(&case, proved, second);
     }
 }
 

@@ -1,7 +1,6 @@
 //! Verify: the proved one beside the second program's. What a triple is made for is held to as well, so
 //! that a slip which both share shows too.
 
-use checks::answers::{at, plain};
 use checks::cases::{fitting, fitting_for, of_length, retagged, Case, Triple};
 use checks::edits::{changes, cuts, spoiled};
 use checks::faults::{bad_text, faulty, Fault, FAULTS};
@@ -44,7 +43,7 @@ fn every_answer_is_given_by_its_own_fault_whatever_else_is_wrong_behind_it() {
         let behind = FAULTS.iter().skip(first + 1).filter(|_| seeded.below(3) == 0);
         let faults: Vec<Fault> = FAULTS.iter().skip(first).take(1).chain(behind).copied().collect();
         let (triple, wanted) = faulty(&faults, &mut seeded);
-        verdicts.expect_at(&triple, wanted);
+        verdicts.expect(&triple, wanted);
     }
     verdicts.met(FAULTY, 0..=21, 100);
 }
@@ -57,7 +56,7 @@ fn every_subset_of_the_faults() {
         let chosen = FAULTS.iter().enumerate().filter(|(at, _)| turn >> at & 1 == 1);
         let faults: Vec<Fault> = chosen.map(|(_, &fault)| fault).collect();
         let (triple, wanted) = faulty(&faults, &mut seeded);
-        verdicts.expect_at(&triple, wanted);
+        verdicts.expect(&triple, wanted);
     }
     verdicts.met(SUBSETS, 0..=12, 4);
 }
@@ -70,7 +69,7 @@ fn every_two_faults_and_every_two_caveats_that_fail() {
         for &second in &FAULTS[at + 1..] {
             for _ in 0..8 {
                 let (triple, wanted) = faulty(&[first, second], &mut seeded);
-                verdicts.expect_at(&triple, wanted);
+                verdicts.expect(&triple, wanted);
             }
         }
     }
@@ -229,8 +228,7 @@ fn spoiled_tokens_and_texts() {
             }
             let text = base64url::encode(&token);
             verdicts.judge(&case.with_text(spoiled(&text, &mut seeded)));
-            let (text, wanted) = bad_text(&text, &mut seeded);
-            verdicts.expect_at(&case.with_text(text), wanted);
+            verdicts.expect(&case.with_text(bad_text(&text, &mut seeded)), 3);
         }
     }
     verdicts.met(SPOILED, [0, 3, 4, 6, 7, 8], 100);
@@ -244,25 +242,18 @@ fn texts_about_the_longest() {
         let case = of_length(bytes, &mut seeded);
         let text = case.laid().text;
         assert_eq!(text.len(), characters);
-        verdicts.expect_at(&case.laid(), plain(if characters <= TEXT { 0 } else { 5 }));
+        verdicts.expect(&case.laid(), if characters <= TEXT { 0 } else { 5 });
         let mut wrong = case.tag();
         wrong[31] ^= 1;
-        let wanted = plain(if characters <= TEXT { 8 } else { 5 });
-        verdicts.expect_at(&case.with_token(&case.tree(&wrong).laid()), wanted);
+        verdicts.expect(&case.with_token(&case.tree(&wrong).laid()), if characters <= TEXT { 8 } else { 5 });
     }
     let case = fitting(1, &mut seeded);
     for length in [TEXT - 2, TEXT - 1, TEXT, TEXT + 1, TEXT + 2, 6000, 8192, 65_535, 65_536, 65_540, 1 << 20] {
         for byte in *b"A=_\0\xff" {
-            // No length of 4k + 1 reads; the last letter's unused bits are zero in an A alone. Neither 00 nor ff is
-            // the head of a map.
-            let wanted = match (byte, length % 4) {
-                _ if length > TEXT => plain(5),
-                (b'A' | b'_', 1) => at(3, length),
-                (b'A', _) | (b'_', 0) => at(4, 0),
-                (b'_', _) => at(3, length - 1),
-                _ => at(3, 0),
-            };
-            verdicts.expect_at(&case.with_text(vec![byte; length]), wanted);
+            // No length of 4k + 1 reads; the last letter's unused bits are zero in an A alone.
+            let reads = byte == b'A' && length % 4 != 1 || byte == b'_' && length % 4 == 0;
+            let wanted = if length > TEXT { 5 } else if reads { 4 } else { 3 };
+            verdicts.expect(&case.with_text(vec![byte; length]), wanted);
         }
     }
     verdicts.met(65, [0, 3, 4, 5, 8], 1);
@@ -299,17 +290,10 @@ fn every_count_of_caveats_with_one_that_fails_in_every_place() {
         let request = Request { now: 1 << 40, body_size: 1 << 20, ..flagged(ALL, &mut seeded) };
         let mut case = fitting_for(request, 0, &mut seeded);
         case.caveats = vec![caveat_of("bytes_le", Node::number(1 << 20)); count];
-        let answer = |number| match count {
-            0..=64 => plain(number),
-            // The list's head lies behind that of the map and the key c.
-            65..=66 => at(5, 3),
-            // Of more than these the text is too long.
-            _ => plain(5),
-        };
-        verdicts.expect_at(&case.laid(), answer(0));
+        verdicts.expect(&case.laid(), if count <= 64 { 0 } else { 5 });
         for at in 0..count {
             let good = std::mem::replace(&mut case.caveats[at], caveat_of("exp", Node::number(0)));
-            verdicts.expect_at(&case.laid(), answer(13));
+            verdicts.expect(&case.laid(), if count <= 64 { 13 } else { 5 });
             case.caveats[at] = good;
         }
     }

@@ -9,12 +9,12 @@ use crate::library::{
     TABLE_BAD, UNKNOWN_FIELD,
 };
 use crate::make::{scope_of, Laid};
-use crate::problem::{refused, refused_at, said, Done};
+use crate::problem::{refused, said, Done};
 use crate::records::row;
 use crate::request::{self, RequestWords};
 use crate::values::{Custom, Hex, Ids, Methods};
 use crate::words::ScopeWords;
-use crate::{files, items, places, show};
+use crate::{files, items, show};
 
 pub const METHOD: &str = "a method is 1 to 16 letters A to Z";
 pub const METHODS: &str = "a list has at most 16 methods";
@@ -93,13 +93,13 @@ pub fn scope<T>(words: &ScopeWords, answer: u32) -> Done<T> {
 }
 
 /// Why a scope's bytes are refused that came in hex.
-pub fn scope_hex<T>(hex: &Hex, scope: &[u8], answer: u32) -> Done<T> {
+pub fn scope_hex<T>(hex: &Hex, answer: u32) -> Done<T> {
     let why = match answer {
         PARSE_BOUNDS => "something in it is too long, too short or too many",
         UNKNOWN_FIELD => "it has a key that no scope has",
         _ => "this is no scope in deterministic CBOR",
     };
-    refused_at(answer, format!("--scope {}", hex.said()), Some(why), Some(places::of_scope(scope)))
+    refused(answer, format!("--scope {}", hex.said()), Some(why))
 }
 
 pub fn request<T>(words: &RequestWords, answer: u32) -> Done<T> {
@@ -157,12 +157,9 @@ pub fn ids<T>(ids: &Ids, table: &str, answer: u32) -> Done<T> {
 }
 
 /// Why a caveat is refused; `what` says which one it is.
-pub fn caveat<T>(caveat: &Caveat, bytes: &[u8], what: &str, answer: u32) -> Done<T> {
+pub fn caveat<T>(caveat: &Caveat, what: &str, answer: u32) -> Done<T> {
     let rule = match &caveat.value {
         Value::Methods(list) => methods_fault(caveat.option, &list.0).map(|(_, rule)| rule),
-        Value::Whole(_) if caveat_answer(bytes) != 0 => {
-            return refused_at(answer, what, None, Some(places::of_caveat(bytes)));
-        }
         Value::Custom(custom) => {
             return match custom_fault(custom) {
                 Some((part, rule)) => refused(answer, format!("{what}, {part}"), Some(rule)),
@@ -180,7 +177,8 @@ pub fn caveat<T>(caveat: &Caveat, bytes: &[u8], what: &str, answer: u32) -> Done
         _ => None,
     };
     // An answer about the token's size, say, is no fault of the caveat's words.
-    refused(answer, what, rule.filter(|_| caveat_answer(bytes) != 0))
+    let own = caveat.bytes().is_ok_and(|bytes| caveat_answer(&bytes) != 0);
+    refused(answer, what, rule.filter(|_| own))
 }
 
 /// The part that is refused and its rule, in the order of the value's bytes: ns, cbor, name.
@@ -203,7 +201,7 @@ fn custom_fault(Custom { ns, name, value }: &Custom) -> Option<(&'static str, &'
 pub fn token<T>(text: &[u8], what: &str, table: &str, answer: u32) -> Done<T> {
     match answer {
         TABLE_BAD => refused(answer, table, None),
-        PARSE_B64 => refused_at(answer, what, Some(&text_fault(text)), places::of_token(text)),
+        PARSE_B64 => refused(answer, what, Some(&text_fault(text))),
         PARSE_BOUNDS if text.len() > files::TEXT => {
             refused(answer, what, Some("a token has at most 5,462 characters"))
         }
@@ -215,7 +213,7 @@ pub fn token<T>(text: &[u8], what: &str, table: &str, answer: u32) -> Done<T> {
             };
             refused(answer, what, Some(&why))
         }
-        _ => refused_at(answer, what, None, places::of_token(text)),
+        _ => refused(answer, what, None),
     }
 }
 

@@ -13,7 +13,6 @@ mod order;
 mod out;
 mod pages;
 mod parts;
-mod places;
 mod problem;
 mod racks;
 mod records;

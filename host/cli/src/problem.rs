@@ -10,9 +10,8 @@ use crate::names;
 pub enum Problem {
     /// The words or a file are not what the command needs.
     Words(String),
-    /// The library refuses with this answer; beside it what is refused, and why in words; and where a reading
-    /// broke, the place.
-    Refused(u32, String, Option<String>),
+    /// The library refuses with this answer; beside it what is refused, and why in words.
+    Refused(u32, String),
     /// Whoever read the output has gone: nobody is left to be told.
     Unread,
 }
@@ -25,12 +24,7 @@ pub fn wrong<T>(said: impl fmt::Display) -> Done<T> {
 
 /// What the library refuses, and why in words; where there are none, what the answer means.
 pub fn refused<T>(answer: u32, what: impl fmt::Display, why: Option<&str>) -> Done<T> {
-    refused_at(answer, what, why, None)
-}
-
-/// The same of bytes that cannot be read, with the place where.
-pub fn refused_at<T>(answer: u32, what: impl fmt::Display, why: Option<&str>, place: Option<String>) -> Done<T> {
-    Err(Problem::Refused(answer, format!("{what}: {}", why.unwrap_or(names::meaning(answer))), place))
+    Err(Problem::Refused(answer, format!("{what}: {}", why.unwrap_or(names::meaning(answer)))))
 }
 
 /// A value as it stands in a message: in quotes where it would not be seen, or would break the line.
@@ -44,7 +38,7 @@ impl Problem {
     pub fn of(self, what: &str) -> Problem {
         match self {
             Problem::Words(said) => Problem::Words(format!("{what}: {said}")),
-            Problem::Refused(answer, said, place) => Problem::Refused(answer, format!("{what}: {said}"), place),
+            Problem::Refused(answer, said) => Problem::Refused(answer, format!("{what}: {said}")),
             Problem::Unread => Problem::Unread,
         }
     }
@@ -60,9 +54,8 @@ impl Problem {
     pub fn tell(&self) {
         let _ = match self {
             Problem::Words(said) => writeln!(io::stderr(), "bhinorpa: {said}"),
-            Problem::Refused(answer, said, place) => {
-                let place: String = place.iter().map(|place| format!("bhinorpa: {place}\n")).collect();
-                write!(io::stderr(), "bhinorpa: {said} ({}, {answer})\n{place}", names::name(*answer))
+            Problem::Refused(answer, said) => {
+                writeln!(io::stderr(), "bhinorpa: {said} ({}, {answer})", names::name(*answer))
             }
             Problem::Unread => Ok(()),
         };

@@ -4,7 +4,7 @@ use serde_json::{json, Value};
 
 use crate::bundle::{records, Record, REQUEST, TABLE};
 use crate::show::{Shown, Tag};
-use crate::{library, names, places, show};
+use crate::{library, names, show};
 
 /// What the bundle holds, and whether it was read to its end.
 pub fn shown(bundle: &[u8]) -> (Shown, bool) {
@@ -22,7 +22,7 @@ pub fn shown(bundle: &[u8]) -> (Shown, bool) {
                 request = record.body;
                 of_request(request)
             }
-            _ => of_token(record.body, archive::verify(table, request, record.body).answer),
+            _ => of_token(record.body, archive::verify(table, request, record.body)),
         };
         lines.push(format!("record {number} at byte {}: {said}", record.at));
         json.push(of_record(record, &said, shown.as_ref()));
@@ -61,16 +61,6 @@ fn of_token(text: &[u8], answer: u32) -> (String, Option<Shown>) {
         library::KID_UNKNOWN | library::MAC_MISMATCH => names::name(answer),
         _ => "right",
     };
-    let shown = match answer {
-        _ if readable => show::token(text, &Tag { is, said: is.to_owned() }),
-        library::PARSE_B64..=library::UNKNOWN_FIELD => unreadable(text),
-        _ => None,
-    };
+    let shown = if readable { show::token(text, &Tag { is, said: is.to_owned() }) } else { None };
     (format!("token, {}", names::line(answer)), shown)
-}
-
-/// Where the reading broke, if that is what was answered.
-fn unreadable(text: &[u8]) -> Option<Shown> {
-    let place = places::of_token(text)?;
-    Some(Shown { json: json!({"unreadable": place}), lines: vec![place] })
 }

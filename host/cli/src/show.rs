@@ -199,7 +199,7 @@ impl Entries {
 }
 
 /// The bytes of a good text.
-pub fn decoded(text: &[u8]) -> Vec<u8> {
+fn decoded(text: &[u8]) -> Vec<u8> {
     const LETTERS: &[u8; 64] = b"ABCDEFGHIJKLMNOPQRSTUVWXYZabcdefghijklmnopqrstuvwxyz0123456789-_";
     let (mut held, mut bits, mut bytes) = (0u32, 0, Vec::new());
     for letter in text.iter().filter_map(|letter| LETTERS.iter().position(|known| known == letter)) {

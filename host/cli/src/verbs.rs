@@ -2,18 +2,17 @@
 
 use std::path::Path;
 
-use archive::Judged;
 use serde_json::json;
 
 use crate::caveats::{Caveat, Caveats};
 use crate::library::{CAV_CBOR, CTX_BAD, KID_UNKNOWN, MAC_MISMATCH, TABLE_BAD};
 use crate::out::{self, Out};
-use crate::problem::{refused, refused_at, wrong, Done};
+use crate::problem::{refused, wrong, Done, Problem};
 use crate::values::{as_hex, Ids};
 use crate::words::{
     CaveatVerb, HashWords, IssueWords, NarrowWords, RequestVerb, ScopeVerb, ShowWords, TableWords, Verb, VerifyWords,
 };
-use crate::{bundle, explain, files, library, make, names, pages, places, racks, records, request, show};
+use crate::{bundle, explain, files, library, make, names, pages, racks, records, request, show};
 
 /// The status that the command ends with.
 pub fn done(verb: Verb) -> Done<u8> {
@@ -65,7 +64,7 @@ fn caveat(words: &CaveatVerb) -> Done<()> {
         let bytes = caveat.bytes()?;
         let answer = library::caveat_answer(&bytes);
         if answer != 0 {
-            return explain::caveat(caveat, &bytes, &place, answer);
+            return explain::caveat(caveat, &place, answer);
         }
         lines += &format!("{}\n", as_hex(&bytes));
     }
@@ -97,9 +96,7 @@ fn issue(words: &IssueWords) -> Done<()> {
         }
         Err(answer) => {
             let hex = words.scope_hex.as_ref();
-            return hex.map_or_else(|| explain::scope(&words.scope, answer), |hex| {
-                explain::scope_hex(hex, &scope, answer)
-            });
+            return hex.map_or_else(|| explain::scope(&words.scope, answer), |hex| explain::scope_hex(hex, answer));
         }
     };
     hand_out(&table, token, ("the fresh token", &named), &words.caveats, &words.out)
@@ -115,12 +112,11 @@ fn narrow(words: &NarrowWords) -> Done<()> {
 /// Narrows a token by caveats, one after the other, and writes its text. `names` are the token's and the table's.
 fn hand_out(table: &[u8], mut token: Vec<u8>, names: (&str, &str), caveats: &Caveats, out: &Out) -> Done<()> {
     for (place, caveat) in numbered(&caveats.read()?) {
-        let bytes = caveat.bytes()?;
-        token = match library::narrow(table, &token, &bytes) {
+        token = match library::narrow(table, &token, &caveat.bytes()?) {
             Ok(child) => child,
             // Up to the tag the answer is about the token or the table, and behind it about the caveat.
             Err(answer @ ..=MAC_MISMATCH) => return explain::token(&token, names.0, names.1, answer),
-            Err(answer @ CAV_CBOR..) => return explain::caveat(caveat, &bytes, &place, answer),
+            Err(answer @ CAV_CBOR..) => return explain::caveat(caveat, &place, answer),
             Err(answer) => return refused(answer, place, None),
         };
     }
@@ -140,10 +136,9 @@ fn verify(words: &VerifyWords) -> Done<u8> {
         None => request::made(&words.request)?,
     };
     let table = files::read(&words.table, files::TABLE)?;
-    let Judged { answer, offset } = archive::verify(&table, &request, &token);
+    let answer = archive::verify(&table, &request, &token);
     let line = if words.json {
-        let (name, meaning) = (names::name(answer), names::meaning(answer));
-        json!({"answer": answer, "name": name, "offset": offset, "meaning": meaning}).to_string()
+        json!({"answer": answer, "name": names::name(answer), "meaning": names::meaning(answer)}).to_string()
     } else {
         names::line(answer)
     };
@@ -182,29 +177,26 @@ fn show(words: &ShowWords) -> Done<u8> {
 }
 
 fn show_part(words: &ShowWords) -> Done<Option<show::Shown>> {
+    let good = |answer: u32, what: String| if answer == 0 { Ok(()) } else { refused(answer, what, None) };
     if let Some(file) = &words.table {
         return Ok(Some(show::table(&make::table(file)?, words.keys)));
     }
     if let Some(file) = &words.request {
         let body = files::read(file, files::REQUEST)?;
-        return match library::request_answer(&body) {
-            0 => Ok(show::request(&body)),
-            answer => refused(answer, request_named(file), None),
-        };
+        good(library::request_answer(&body), request_named(file))?;
+        return Ok(show::request(&body));
     }
     if let Some(hex) = &words.scope {
         let scope = hex.bytes("scope")?;
         return match library::scope_answer(&scope) {
             0 => Ok(show::scope(&scope)),
-            answer => explain::scope_hex(hex, &scope, answer),
+            answer => explain::scope_hex(hex, answer),
         };
     }
     if let Some(hex) = &words.caveat {
         let caveat = hex.bytes("caveat")?;
-        return match library::caveat_answer(&caveat) {
-            0 => Ok(show::caveat(&caveat)),
-            answer => refused_at(answer, format!("--caveat {}", hex.said()), None, Some(places::of_caveat(&caveat))),
-        };
+        good(library::caveat_answer(&caveat), format!("--caveat {}", hex.said()))?;
+        return Ok(show::caveat(&caveat));
     }
     Ok(None)
 }
@@ -237,7 +229,7 @@ fn hash(words: &HashWords) -> Done<()> {
         let long = message.len() > files::MESSAGE;
         let what = if long { files::named(&words.file) } else { "--key".to_owned() };
         let why = if long { "at most 8,192 bytes are hashed" } else { explain::KEY };
-        return refused(hashed.answer, what, Some(why));
+        return Err(Problem::Refused(hashed.answer, format!("{what}: {why}")));
     }
     words.out.put(format!("{}\n", as_hex(&hashed.bytes)).as_bytes())
 }

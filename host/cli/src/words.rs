@@ -267,7 +267,7 @@ pub struct VerifyWords {
     #[command(flatten)]
     pub request: RequestWords,
 
-    /// Prints one line of JSON: number, name, place and meaning of the answer
+    /// Prints one line of JSON: number, name and meaning of the answer
     #[arg(long)]
     pub json: bool,
 

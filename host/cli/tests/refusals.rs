@@ -261,47 +261,6 @@ fn every_word_is_used_or_refused() {
     assert!(cases.iter().filter(|(_, status, ..)| *status != 0).count() > 170, "of {} command lines", cases.len());
 }
 
-/// Words, and the line on standard error that says where a reading broke.
-const PLACES: &[(&str, &str)] = &[
-    ("verify --table keys --token-text pmFjgaJhdGNleHBhdl8 --request asked", "parse.cbor at byte 13 of the token: 0x5f, in .. 63 65 78 70 61 76 [5f]"),
-    ("verify --table keys --token-text pmF4 --request asked", "schema.unknown_field at byte 1 of the token: 0x61, in a6 [61] 78"),
-    ("verify --table keys --token-text pmFjmEFh --request asked", "parse.bounds at byte 3 of the token: 0x98, in a6 61 63 [98] 41 61"),
-    ("verify --table keys --token-text pg --request asked", "parse.cbor at byte 1 of the token: the end, behind a6"),
-    ("verify --table keys --token empty --request asked", "parse.cbor at byte 0 of the token: there are no bytes"),
-    ("verify --table keys --token-text pm=j --request asked", "parse.b64 at character 2 of the text: 0x3d, in 70 6d [3d] 6a"),
-    ("verify --table keys --token-text abcde --request asked", "parse.b64 at character 5 of the text: the end, behind 61 62 63 64 65"),
-    ("verify --table keys --token-text _x --request asked", "parse.b64 at character 1 of the text: 0x78, in 5f [78]"),
-    ("narrow --table keys --token-text pmFy --method GET", "parse.cbor at byte 1 of the token: 0x61, in a6 [61] 72"),
-    ("show --token-text pmFy", "parse.cbor at byte 1 of the token: 0x61, in a6 [61] 72"),
-    ("bundle --token-text pmFy", "parse.cbor at byte 1 of the token: 0x61, in a6 [61] 72"),
-    ("issue --table keys --tid workshop --kid k2 --scope a1676d6574686f64738163474574", "parse.cbor at byte 11 of the scope: 0x47, in .. 68 6f 64 73 81 63 [47] 45 74"),
-    ("show --scope a1676d6574686f64738000", "parse.cbor at byte 10 of the scope: 0x00, in .. 74 68 6f 64 73 80 [00]"),
-    ("narrow --table keys --token token --caveat a2617463657870", "cav.cbor at byte 7 of the caveat: the end, behind .. 61 74 63 65 78 70"),
-    ("caveat --caveat a2617463657871", "cav.unknown at byte 3 of the caveat: 0x63, in a2 61 74 [63] 65 78 71"),
-    ("caveat --exp 0 --caveat - <bad.hex", "cav.unknown at byte 3 of the caveat: 0x63, in a2 61 74 [63] 65 78 71 61 76"),
-    ("show --caveat a26174636578716176", "cav.unknown at byte 3 of the caveat: 0x63, in a2 61 74 [63] 65 78 71 61 76"),
-    // What is no reading has no place, and neither has a text that is too long, nor bytes that the words made.
-    ("verify --table keys --token-text $(printf %05463d 0) --request asked", ""),
-    ("verify --table empty --token token --request asked", ""),
-    ("narrow --table other --token token --method GET", ""),
-    ("scope --methods get", ""),
-    ("caveat --tenant 'a b'", ""),
-];
-
-#[test]
-fn where_a_reading_broke() {
-    let folder = folder("places");
-    for (words, place) in PLACES {
-        let (status, _, errors) = folder.call(words);
-        let wanted = if place.is_empty() { vec![] } else { vec![format!("bhinorpa: {place}")] };
-        assert_eq!((status, errors.lines().skip(1).collect::<Vec<_>>()), (1, wanted.iter().map(String::as_str).collect()), "{words}");
-    }
-    folder.good("bundle --as-is --table keys --request asked --token-text pmFy --out rack");
-    let shown = folder.good("show --bundle rack");
-    let place = "token, deny parse.cbor\n  parse.cbor at byte 1 of the token: 0x61, in a6 [61] 72\n";
-    assert!(shown.ends_with(place), "{shown}");
-}
-
 /// A rule that is said, words that keep it at its edges, and words that break it.
 type Rule = (&'static str, &'static [&'static str], &'static [&'static str]);
 

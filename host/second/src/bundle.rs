@@ -30,7 +30,7 @@ pub fn lines(input: &[u8]) -> Vec<u8> {
         match record.kind {
             TABLE => table = record.body,
             REQUEST => request = record.body,
-            TOKEN => lines.extend(line(verify(table, request, record.body).answer).into_bytes()),
+            TOKEN => lines.extend(line(verify(table, request, record.body)).into_bytes()),
             _ => {
                 lines.extend(BAD);
                 break;

@@ -1,7 +1,6 @@
 //! A fresh token, without caveats: a key table, ids and a scope in, a text into the room.
 
-use crate::cbor::malformed;
-use crate::refusal::{plain, Refusal};
+use crate::cbor::PARSE_CBOR;
 use crate::room::{hand_out, Written};
 use crate::token::Fields;
 use crate::verify::{key_under, TABLE_BAD};
@@ -11,13 +10,13 @@ pub fn issue(table: &[u8], tid: &[u8], kid: &[u8], scope: &[u8], room: &mut [u8]
     hand_out(fresh(table, tid, kid, scope), room)
 }
 
-/// The text, or the first reason that there is none; places are those of the scope that is given. Ids of a
-/// wrong form need no look of their own: no good table has a row under them.
-fn fresh(table: &[u8], tid: &[u8], kid: &[u8], scope: &[u8]) -> Result<Vec<u8>, Refusal> {
-    let rows = table::read(table).ok_or(plain(TABLE_BAD))?;
-    let read = scope::read(scope, 0)?;
+/// The text, or the first reason that there is none. Ids of a wrong form need no look of their own: no
+/// good table has a row under them.
+fn fresh(table: &[u8], tid: &[u8], kid: &[u8], scope: &[u8]) -> Result<Vec<u8>, u32> {
+    let rows = table::read(table).ok_or(TABLE_BAD)?;
+    let read = scope::read(scope, 0).map_err(|defect| defect.number)?;
     if read.next < scope.len() {
-        return Err(malformed(read.next).into());
+        return Err(PARSE_CBOR);
     }
     let key = key_under(&rows, tid, kid)?;
     let tag = chain::tag(key, tid, kid, scope, &[]);
@@ -40,12 +39,11 @@ mod tests {
         table::write(&[row(&b"t"[..], &b"k"[..]), row(b"tenant-1", b"kid-2025-10")])
     }
 
-    /// The answer and its place.
-    fn refused(table: &[u8], tid: &[u8], kid: &[u8], scope: &[u8]) -> (u32, u64) {
+    fn refused(table: &[u8], tid: &[u8], kid: &[u8], scope: &[u8]) -> u32 {
         let mut room = [7; 6000];
         let written = issue(table, tid, kid, scope, &mut room);
         assert_eq!((written.length, room), (0, [7; 6000]));
-        (written.answer, written.offset)
+        written.answer
     }
 
     #[test]
@@ -58,7 +56,7 @@ mod tests {
         let text = base64url::encode(&parts.concat());
         let mut room = vec![b'.'; text.len() + 3];
         let written = issue(&rows(), b"tenant-1", b"kid-2025-10", SCOPE, &mut room);
-        assert_eq!(written, Written { answer: DONE, length: text.len() as u32, offset: 0 });
+        assert_eq!(written, Written { answer: DONE, length: text.len() as u32 });
         assert_eq!(room, [&text[..], b"..."].concat());
     }
 
@@ -73,41 +71,23 @@ mod tests {
         for short in [0, 1, length - 1] {
             let mut room = vec![b'.'; short];
             let written = issue(&rows(), b"t", b"k", SCOPE, &mut room);
-            assert_eq!((written, room), (Written { answer: OUT_SHORT, length: 0, offset: 0 }, vec![b'.'; short]));
+            assert_eq!((written, room), (Written { answer: OUT_SHORT, length: 0 }, vec![b'.'; short]));
         }
     }
 
     #[test]
     fn each_refusal_and_their_order() {
         let rows = rows();
-        assert_eq!(refused(&rows[1..], b"", b"", b""), (TABLE_BAD, 0));
-        assert_eq!(refused(&rows, b"", b"", b""), (4, 0));
-        assert_eq!(refused(&rows, b"t", b"k", &[SCOPE, b"\0"].concat()), (4, 14));
-        assert_eq!(refused(&rows, b"", b"", b"\xa1\x66prefix\x60"), (5, 8));
-        assert_eq!(refused(&rows, b"", b"", b"\xa4"), (6, 0));
-        assert_eq!(refused(&rows, b"t", b"", SCOPE), (KID_UNKNOWN, 0));
-        assert_eq!(refused(&rows, &[b't'; 65], b"k", SCOPE), (KID_UNKNOWN, 0));
-        assert_eq!(refused(&rows, b"k", b"t", SCOPE), (KID_UNKNOWN, 0));
-        assert_eq!(refused(b"", b"t", b"k", SCOPE), (KID_UNKNOWN, 0));
+        assert_eq!(refused(&rows[1..], b"", b"", b""), TABLE_BAD);
+        assert_eq!(refused(&rows, b"", b"", b""), 4);
+        assert_eq!(refused(&rows, b"t", b"k", &[SCOPE, b"\0"].concat()), 4);
+        assert_eq!(refused(&rows, b"", b"", b"\xa1\x66prefix\x60"), 5);
+        assert_eq!(refused(&rows, b"", b"", b"\xa4"), 6);
+        assert_eq!(refused(&rows, b"t", b"", SCOPE), KID_UNKNOWN);
+        assert_eq!(refused(&rows, &[b't'; 65], b"k", SCOPE), KID_UNKNOWN);
+        assert_eq!(refused(&rows, b"k", b"t", SCOPE), KID_UNKNOWN);
+        assert_eq!(refused(b"", b"t", b"k", SCOPE), KID_UNKNOWN);
         assert_eq!(issue(b"", b"t", b"k", SCOPE, &mut []).answer, KID_UNKNOWN);
-    }
-
-    #[test]
-    fn places_count_in_the_scope() {
-        let refused = |scope: &[u8]| refused(&rows(), b"t", b"k", scope);
-        // A head that is not there, one that is cut, and a string whose bytes are missing.
-        assert_eq!(refused(&SCOPE[..9]), (4, 9));
-        assert_eq!(refused(b"\xb8"), (4, 0));
-        assert_eq!(refused(&SCOPE[..13]), (4, 10));
-        // Content, a method that is too long, too many of them, and a key that is not known.
-        assert_eq!(refused(b"\xa1\x67methods\x82\x63GET\x63PUt"), (4, 15));
-        assert_eq!(refused(b"\xa1\x67methods\x82\x63GET\x71"), (5, 14));
-        assert_eq!(refused(b"\xa1\x67methods\x91"), (5, 9));
-        assert_eq!(refused(b"\xa1\x67method_\x80"), (6, 1));
-        // Methods absent at the end, passed over, and repeated.
-        assert_eq!(refused(b"\xa1\x66prefix\x61/"), (4, 0));
-        assert_eq!(refused(b"\xa2\x66prefix\x61/\x69max_bytes\x00"), (4, 10));
-        assert_eq!(refused(b"\xa2\x67methods\x80\x67methods\x80"), (4, 10));
     }
 
     #[test]

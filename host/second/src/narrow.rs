@@ -1,9 +1,8 @@
 //! A child: a token's text and one caveat in, the text of the token with that caveat behind its others
 //! into the room. The parent is judged whole, its tag included, before a byte of the caveat is.
 
-use crate::cbor::{malformed, Defect, PARSE_BOUNDS, PARSE_CBOR};
+use crate::cbor::{PARSE_BOUNDS, PARSE_CBOR};
 use crate::chain::official;
-use crate::refusal::{plain, Refusal};
 use crate::room::{hand_out, Written};
 use crate::token::{Fields, CAVEATS};
 use crate::verify::{genuine, TABLE_BAD};
@@ -23,13 +22,13 @@ pub fn narrow(table: &[u8], token: &[u8], caveat: &[u8], room: &mut [u8]) -> Wri
 }
 
 /// The child's text, or the first reason that there is none.
-fn child(table: &[u8], text: &[u8], caveat: &[u8]) -> Result<Vec<u8>, Refusal> {
-    let rows = table::read(table).ok_or(plain(TABLE_BAD))?;
+fn child(table: &[u8], text: &[u8], caveat: &[u8]) -> Result<Vec<u8>, u32> {
+    let rows = table::read(table).ok_or(TABLE_BAD)?;
     let mut parent = genuine(official, &rows, text)?;
-    one_caveat(caveat).map_err(of_the_caveat)?;
+    one_caveat(caveat)?;
     let read = parent.whole.token;
     if read.caveats.count == CAVEATS {
-        return Err(plain(CAV_FULL));
+        return Err(CAV_FULL);
     }
     parent.chain.narrow(caveat);
     let fields = Fields {
@@ -43,25 +42,22 @@ fn child(table: &[u8], text: &[u8], caveat: &[u8]) -> Result<Vec<u8>, Refusal> {
     };
     let bytes = token::write(&fields);
     if bytes.len() > BYTES {
-        return Err(plain(SIZE_FULL));
+        return Err(SIZE_FULL);
     }
     Ok(base64url::encode(&bytes))
 }
 
 /// The bytes are one caveat and nothing besides.
-fn one_caveat(bytes: &[u8]) -> Result<(), Defect> {
-    let next = caveat::read(bytes, 0)?.next;
-    if next < bytes.len() { Err(malformed(next)) } else { Ok(()) }
-}
-
-/// A defect of the caveat has its own number, and a place in the caveat.
-fn of_the_caveat(Defect { number, place }: Defect) -> Refusal {
-    let number = match number {
-        PARSE_CBOR => CAV_CBOR,
-        PARSE_BOUNDS => CAV_BOUNDS,
-        _ => CAV_UNKNOWN,
-    };
-    Refusal { number, place }
+fn one_caveat(bytes: &[u8]) -> Result<(), u32> {
+    match caveat::read(bytes, 0) {
+        Ok(read) if read.next == bytes.len() => Ok(()),
+        Ok(_) => Err(CAV_CBOR),
+        Err(defect) => Err(match defect.number {
+            PARSE_CBOR => CAV_CBOR,
+            PARSE_BOUNDS => CAV_BOUNDS,
+            _ => CAV_UNKNOWN,
+        }),
+    }
 }
 
 #[cfg(test)]
@@ -88,21 +84,12 @@ mod tests {
         room
     }
 
-    /// The child's text, or the answer and its place.
-    fn judged(text: &[u8], caveat: &[u8]) -> Result<Vec<u8>, (u32, u64)> {
+    fn narrowed(text: &[u8], caveat: &[u8]) -> Result<Vec<u8>, u32> {
         let mut room = vec![b'.'; 6000];
-        let Written { answer, length, offset } = narrow(&rows(), text, caveat, &mut room);
+        let Written { answer, length } = narrow(&rows(), text, caveat, &mut room);
         assert!(room[length as usize..].iter().all(|&byte| byte == b'.'));
         room.truncate(length as usize);
-        if (answer, offset) == (DONE, 0) { Ok(room) } else { Err((answer, offset)) }
-    }
-
-    /// The same where no place is wanted.
-    fn narrowed(text: &[u8], caveat: &[u8]) -> Result<Vec<u8>, u32> {
-        judged(text, caveat).map_err(|(answer, offset)| {
-            assert_eq!(offset, 0);
-            answer
-        })
+        if answer == DONE { Ok(room) } else { Err(answer) }
     }
 
     /// A custom caveat of so many bytes in all, 300 or more.
@@ -137,50 +124,31 @@ mod tests {
     #[test]
     fn each_refusal_of_the_parent_comes_before_the_caveat() {
         let (rows, text) = (rows(), fresh());
-        let answer = |table: &[u8], text: &[u8]| {
-            let written = narrow(table, text, b"", &mut []);
-            (written.answer, written.offset)
-        };
-        assert_eq!(answer(&rows[1..], &[b'='; 5463]), (TABLE_BAD, 0));
-        assert_eq!(answer(&rows, &[b'='; 5463]), (PARSE_BOUNDS, 0));
-        assert_eq!(answer(&rows, &[&[b'A'; 5461][..], b"="].concat()), (PARSE_B64, 5461));
-        assert_eq!(answer(&rows, b""), (PARSE_CBOR, 0));
-        assert_eq!(answer(&rows, b"pw"), (6, 0));
-        assert_eq!(answer(b"", &text), (KID_UNKNOWN, 0));
+        let answer = |table: &[u8], text: &[u8]| narrow(table, text, b"", &mut []).answer;
+        assert_eq!(answer(&rows[1..], &[b'='; 5463]), TABLE_BAD);
+        assert_eq!(answer(&rows, &[b'='; 5463]), PARSE_BOUNDS);
+        assert_eq!(answer(&rows, &[b'='; 5462]), PARSE_B64);
+        assert_eq!(answer(&rows, b""), PARSE_CBOR);
+        assert_eq!(answer(&rows, b"pw"), 6);
+        assert_eq!(answer(b"", &text), KID_UNKNOWN);
         let mut bytes = base64url::decode(&text).unwrap();
-        assert_eq!(answer(&rows, &base64url::encode(&[&bytes[..], &[0]].concat())), (PARSE_CBOR, bytes.len() as u64));
-        assert_eq!(answer(&rows, &base64url::encode(&bytes[..bytes.len() - 1])), (PARSE_CBOR, bytes.len() as u64 - 9));
         let place = token::read(&bytes).unwrap().tag.1 - 1;
         bytes[place] ^= 1;
-        assert_eq!(answer(&rows, &base64url::encode(&bytes)), (MAC_MISMATCH, 0));
-        assert_eq!(answer(&rows, &text), (CAV_CBOR, 0));
+        assert_eq!(answer(&rows, &base64url::encode(&bytes)), MAC_MISMATCH);
+        assert_eq!(answer(&rows, &text), CAV_CBOR);
     }
 
     #[test]
     fn caveats_that_are_none() {
         let text = fresh();
-        let refused = |caveat: &[u8]| judged(&text, caveat).unwrap_err();
-        assert_eq!(refused(b""), (CAV_CBOR, 0));
-        assert_eq!(refused(&[EXP, b"\0"].concat()), (CAV_CBOR, 14));
-        assert_eq!(refused(&[EXP, EXP].concat()), (CAV_CBOR, 14));
-        assert_eq!(refused(&[b"\x81", EXP].concat()), (CAV_CBOR, 0));
-        assert_eq!(refused(&EXP[..13]), (CAV_CBOR, 9));
-        assert_eq!(refused(&EXP[..9]), (CAV_CBOR, 9));
-        assert_eq!(refused(b"\xa2\x61t\x67ip_cidr\x61v\x60"), (CAV_CBOR, 14));
-        assert_eq!(refused(b"\xa2\x61t\x66tenant\x61v\x60"), (CAV_BOUNDS, 12));
-        assert_eq!(refused(b"\xa2\x61t\x63exq"), (CAV_UNKNOWN, 3));
-        assert_eq!(refused(b"\xa2\x61t\x63exp\x61w"), (CAV_UNKNOWN, 7));
-        assert_eq!(refused(b"\xa3"), (CAV_UNKNOWN, 0));
-    }
-
-    #[test]
-    fn a_place_past_16_bits() {
-        let front = b"\xa2\x61t\x66custom\x61v\xa3\x62ns\x61n\x64cbor\x5a\0\x01\x11\x70";
-        let long = |name: &[u8]| [&front[..], &[0xff; 70_000], b"\x64name", name].concat();
-        assert_eq!(judged(&fresh(), &long(b"\x61n")), Err((SIZE_FULL, 0)));
-        assert_eq!(judged(&fresh(), &long(b"\x61 ")), Err((CAV_CBOR, 70_034)));
-        assert_eq!(judged(&fresh(), &long(b"\x60")), Err((CAV_BOUNDS, 70_033)));
-        assert_eq!(judged(&fresh(), &long(b"\x61n\x00")), Err((CAV_CBOR, 70_035)));
+        let refused = |caveat: &[u8]| narrowed(&text, caveat).unwrap_err();
+        assert_eq!(refused(b""), CAV_CBOR);
+        assert_eq!(refused(&[EXP, b"\0"].concat()), CAV_CBOR);
+        assert_eq!(refused(&[EXP, EXP].concat()), CAV_CBOR);
+        assert_eq!(refused(&[b"\x81", EXP].concat()), CAV_CBOR);
+        assert_eq!(refused(b"\xa2\x61t\x66tenant\x61v\x60"), CAV_BOUNDS);
+        assert_eq!(refused(b"\xa2\x61t\x63exq"), CAV_UNKNOWN);
+        assert_eq!(refused(b"\xa3"), CAV_UNKNOWN);
     }
 
     #[test]
@@ -194,7 +162,7 @@ mod tests {
         }
         assert_eq!(narrowed(&text, AMNESIA), Err(CAV_FULL));
         assert_eq!(narrowed(&text, &custom(60_000)), Err(CAV_FULL));
-        assert_eq!(judged(&text, b"\xa2\x61t\x63exq"), Err((CAV_UNKNOWN, 3)));
+        assert_eq!(narrowed(&text, b"\xa3"), Err(CAV_UNKNOWN));
     }
 
     #[test]

@@ -1,8 +1,7 @@
-use mathlib.Core.Path.{sym, ap, ◌∙◌}
+use mathlib.Core.Path.{sym, ◌∙◌}
 use Prim.Native.Nat.{◌-◌}
 use lib.ListN.{length}
 use Rattle.bundle.proofs.Going.{Going, going_none, ends, stop_fits, cut, other, token_fits, falls, table_one, request_one, token_one}
-use Rattle.verify.specs.declared.Finding.{Finding}
 use borrow.Author.Rules.{rules}
 use Rattle.bundle.proofs.walk.Statement.{statement}
 use Rattle.bundle.proofs.walk.Tie as tie
@@ -87,7 +86,7 @@ loop-less-3 : tie.Need-loop-smaller-3 invariant-loop decreases-loop
 loop-less-3 c = falls c.before.before.before.before.before.before.before.before.before.before.before.before.before.before.before.before.before.loop.invariant c.before.before.before.before.before.before.before.before.before.before.before.before.before.before.before.before.before.before.before.before.requires.1 c.before.before.before.before.before.before.before.before.before.before.before.before.before.before.before.before.loop-test.true (sym c.before.before.before.before.before.before.before.before.before.before.before.before.before.before.before.record-at.ensures ∙ c.before.before.before.before.before.before.before.before.before.before.before.before.before.«record».given.1) (λ i. (c.before.before.before.before.before.before.before.before.before.before.before.before.before.before.before.before.before.before.before.shared-slice-known.given i).fits)
 
 loop-again-3 : tie.Need-loop-preserved-3 invariant-loop decreases-loop
-loop-again-3 c = token_one c.before.before.before.before.before.before.before.before.before.before.before.before.before.before.before.before.before.loop.invariant c.before.before.before.before.before.before.before.before.before.before.before.before.before.before.before.before.before.before.before.before.requires.1 c.before.before.before.before.before.before.before.before.before.before.before.before.before.before.before.before.loop-test.true (sym c.before.before.before.before.before.before.before.before.before.before.before.before.before.before.before.record-at.ensures ∙ c.before.before.before.before.before.before.before.before.before.before.before.before.before.«record».given.1) (λ i. (c.before.before.before.before.before.before.before.before.before.before.before.before.before.before.before.before.before.before.before.shared-slice-known.given i).fits) c.before.before.before.before.before.before.before.before.before.before.if1.false c.before.before.before.before.before.before.before.before.before.if2.false c.before.before.before.before.before.before.before.before.if3.true c.before.before.before.before.before.before.before.lend.ensures.0 c.before.before.before.before.before.before.lend2.ensures.0 c.before.before.before.before.before.lend3.ensures.0 (ap (λ (found : Finding). found.answer) c.before.before.before.before.verify.ensures) c.before.before.put-line.ensures
+loop-again-3 c = token_one c.before.before.before.before.before.before.before.before.before.before.before.before.before.before.before.before.before.loop.invariant c.before.before.before.before.before.before.before.before.before.before.before.before.before.before.before.before.before.before.before.before.requires.1 c.before.before.before.before.before.before.before.before.before.before.before.before.before.before.before.before.loop-test.true (sym c.before.before.before.before.before.before.before.before.before.before.before.before.before.before.before.record-at.ensures ∙ c.before.before.before.before.before.before.before.before.before.before.before.before.before.«record».given.1) (λ i. (c.before.before.before.before.before.before.before.before.before.before.before.before.before.before.before.before.before.before.before.shared-slice-known.given i).fits) c.before.before.before.before.before.before.before.before.before.before.if1.false c.before.before.before.before.before.before.before.before.before.if2.false c.before.before.before.before.before.before.before.before.if3.true c.before.before.before.before.before.before.before.lend.ensures.0 c.before.before.before.before.before.before.lend2.ensures.0 c.before.before.before.before.before.lend3.ensures.0 c.before.before.before.before.verify.ensures c.before.before.put-line.ensures
 
 same-length-3 : tie.Need-same-length-3 invariant-loop decreases-loop
 same-length-3 c = c.before.loop.invariant.long

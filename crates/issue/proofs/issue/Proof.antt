@@ -7,7 +7,6 @@ use Rattle.issue.proofs.issue.Tie as tie
 use Rattle.issue.proofs.issue.Reads as reads
 use Rattle.issue.proofs.issue.Lts as lts
 use Rattle.issue.proofs.issue_with.Reads as issue-with-reads
-use Rattle.outcome.proofs.defect.Reads as defect-reads
 use Rattle.outcome.proofs.refusal.Reads as refusal-reads
 use Rattle.token_scope.proofs.read_scope.Reads as read-scope-reads
 use Rattle.records_table.proofs.find.Reads as find-reads
@@ -22,8 +21,8 @@ read-scope-requires c κs = search rules
 enum-known-kind : tie.Need-enum-known-kind
 enum-known-kind c = search rules
 
-defect-requires : tie.Need-defect-requires
-defect-requires c κs = search rules
+refusal-requires : tie.Need-refusal-requires
+refusal-requires c κs = search rules
 
 enum-known-next : tie.Need-enum-known-next
 enum-known-next c = search rules
@@ -40,20 +39,20 @@ same_length c = search rules
 returns : tie.Need-returns
 returns c = moved (issue_found c.before.before.before.before.before.before.before.before.before.before.before.before.before.before.before.before.before.args.table.now c.before.before.before.before.before.before.before.before.before.before.before.before.before.before.before.before.before.args.tid.now c.before.before.before.before.before.before.before.before.before.before.before.before.before.before.before.before.before.args.kid.now c.before.before.before.before.before.before.before.before.before.before.before.before.before.before.before.before.before.args.scope.now (sym c.before.before.before.before.before.before.before.before.before.before.before.table-ok.ensures ∙ c.before.before.before.before.before.before.before.before.before.before.if1.true) (sym c.before.before.before.before.before.before.before.before.before.read-scope.ensures ∙ c.before.before.before.before.before.before.before.next.given.1) c.before.before.before.before.before.if2.true c.before.before.before.before.find.ensures.0) c.before.before.issue-with.ensures
 
-defect-requires-2 : tie.Need-defect-requires-2
-defect-requires-2 c κs = search rules
+refusal-requires-2 : tie.Need-refusal-requires-2
+refusal-requires-2 c κs = search rules
 
 returns-2 : tie.Need-returns-2
-returns-2 c = moved (issue_bad_scope c.before.before.before.before.before.before.before.before.before.before.before.before.args.table.now c.before.before.before.before.before.before.before.before.before.before.before.before.args.tid.now c.before.before.before.before.before.before.before.before.before.before.before.before.args.kid.now c.before.before.before.before.before.before.before.before.before.before.before.before.args.scope.now (sym c.before.before.before.before.before.before.table-ok.ensures ∙ c.before.before.before.before.before.if1.true) (sym c.before.before.before.before.read-scope.ensures ∙ c.before.before.kind.given.1)) (refused_is c.defect.ensures)
+returns-2 c = moved (issue_bad_scope c.before.before.before.before.before.before.before.before.before.before.before.before.args.table.now c.before.before.before.before.before.before.before.before.before.before.before.before.args.tid.now c.before.before.before.before.before.before.before.before.before.before.before.before.args.kid.now c.before.before.before.before.before.before.before.before.before.before.before.before.args.scope.now (sym c.before.before.before.before.before.before.table-ok.ensures ∙ c.before.before.before.before.before.if1.true) (sym c.before.before.before.before.read-scope.ensures ∙ c.before.before.kind.given.1)) (refused_is c.refusal.ensures)
 
 returns-3 : tie.Need-returns-3
-returns-3 c = moved (issue_left_over c.before.before.before.before.before.before.before.before.before.before.before.before.before.args.table.now c.before.before.before.before.before.before.before.before.before.before.before.before.before.args.tid.now c.before.before.before.before.before.before.before.before.before.before.before.before.before.args.kid.now c.before.before.before.before.before.before.before.before.before.before.before.before.before.args.scope.now (sym c.before.before.before.before.before.before.before.table-ok.ensures ∙ c.before.before.before.before.before.before.if1.true) (sym c.before.before.before.before.before.read-scope.ensures ∙ c.before.before.before.next.given.1) c.before.if2.false) (refused_is c.defect2.ensures)
+returns-3 c = moved (issue_left_over c.before.before.before.before.before.before.before.before.before.before.before.before.before.args.table.now c.before.before.before.before.before.before.before.before.before.before.before.before.before.args.tid.now c.before.before.before.before.before.before.before.before.before.before.before.before.before.args.kid.now c.before.before.before.before.before.before.before.before.before.before.before.before.before.args.scope.now (sym c.before.before.before.before.before.before.before.table-ok.ensures ∙ c.before.before.before.before.before.before.if1.true) (sym c.before.before.before.before.before.read-scope.ensures ∙ c.before.before.before.next.given.1) c.before.if2.false) (refused_is c.refusal2.ensures)
 
-refusal-requires : tie.Need-refusal-requires
-refusal-requires c κs = search rules
+refusal-requires-3 : tie.Need-refusal-requires-3
+refusal-requires-3 c κs = search rules
 
 returns-4 : tie.Need-returns-4
-returns-4 c = moved (issue_bad_table c.before.before.before.before.before.before.before.before.args.table.now c.before.before.before.before.before.before.before.before.args.tid.now c.before.before.before.before.before.before.before.before.args.kid.now c.before.before.before.before.before.before.before.before.args.scope.now (sym c.before.before.table-ok.ensures ∙ c.before.if1.false)) (refused_is c.refusal.ensures)
+returns-4 c = moved (issue_bad_table c.before.before.before.before.before.before.before.before.args.table.now c.before.before.before.before.before.before.before.before.args.tid.now c.before.before.before.before.before.before.before.before.args.kid.now c.before.before.before.before.before.before.before.before.args.scope.now (sym c.before.before.table-ok.ensures ∙ c.before.if1.false)) (refused_is c.refusal3.ensures)
 
 pub issue-spec : {M : Type 1} → statement M
 issue-spec =
@@ -62,14 +61,14 @@ issue-spec =
     table-ok-requires
     read-scope-requires
     enum-known-kind
-    defect-requires
+    refusal-requires
     enum-known-next
     find-requires
     issue-with-requires
     same_length
     returns
-    defect-requires-2
+    refusal-requires-2
     returns-2
     returns-3
-    refusal-requires
+    refusal-requires-3
     returns-4)

@@ -14,8 +14,8 @@ read-token-requires c κs = search rules
 enum-known-kind : tie.Need-enum-known-kind
 enum-known-kind c = search rules
 
-defect-requires : tie.Need-defect-requires
-defect-requires c κs = search rules
+refusal-requires : tie.Need-refusal-requires
+refusal-requires c κs = search rules
 
 enum-known-token : tie.Need-enum-known-token
 enum-known-token c = search rules
@@ -38,14 +38,14 @@ same_length c = search rules
 returns : tie.Need-returns
 returns c = moved (narrow_found c.before.before.before.before.before.before.before.before.before.before.before.before.before.before.before.before.before.before.args.table.now c.before.before.before.before.before.before.before.before.before.before.before.before.before.before.before.before.before.before.args.s.now c.before.before.before.before.before.before.before.before.before.before.before.before.before.before.before.before.before.before.args.caveat.now (sym c.before.before.before.before.before.before.before.before.before.before.before.before.before.read-token.ensures ∙ c.before.before.before.before.before.before.before.before.before.before.before.token.given.1) c.before.before.before.before.before.before.before.lend.ensures.0 c.before.before.before.before.before.before.lend2.ensures.0 c.before.before.before.before.before.find.ensures.0 c.before.before.before.before.if1.true) c.before.before.narrow-with.ensures
 
-refusal-requires : tie.Need-refusal-requires
-refusal-requires c κs = search rules
+refusal-requires-2 : tie.Need-refusal-requires-2
+refusal-requires-2 c κs = search rules
 
 returns-2 : tie.Need-returns-2
-returns-2 c = moved (narrow_unreadable c.before.before.before.before.before.before.before.before.before.args.table.now c.before.before.before.before.before.before.before.before.before.args.s.now c.before.before.before.before.before.before.before.before.before.args.caveat.now (sym c.before.before.before.before.read-token.ensures ∙ c.before.before.kind.given.1)) (refused_is c.defect.ensures)
+returns-2 c = moved (narrow_unreadable c.before.before.before.before.before.before.before.before.before.args.table.now c.before.before.before.before.before.before.before.before.before.args.s.now c.before.before.before.before.before.before.before.before.before.args.caveat.now (sym c.before.before.before.before.read-token.ensures ∙ c.before.before.kind.given.1)) (refused_is c.refusal.ensures)
 
 returns-3 : tie.Need-returns-3
-returns-3 c = moved (narrow_no_key c.before.before.before.before.before.before.before.before.before.before.before.before.before.before.before.args.table.now c.before.before.before.before.before.before.before.before.before.before.before.before.before.before.before.args.s.now c.before.before.before.before.before.before.before.before.before.before.before.before.before.before.before.args.caveat.now (sym c.before.before.before.before.before.before.before.before.before.before.read-token.ensures ∙ c.before.before.before.before.before.before.before.before.token.given.1) c.before.before.before.before.lend.ensures.0 c.before.before.before.lend2.ensures.0 c.before.before.find.ensures.0 c.before.if1.false) (refused_is c.refusal.ensures)
+returns-3 c = moved (narrow_no_key c.before.before.before.before.before.before.before.before.before.before.before.before.before.before.before.args.table.now c.before.before.before.before.before.before.before.before.before.before.before.before.before.before.before.args.s.now c.before.before.before.before.before.before.before.before.before.before.before.before.before.before.before.args.caveat.now (sym c.before.before.before.before.before.before.before.before.before.before.read-token.ensures ∙ c.before.before.before.before.before.before.before.before.token.given.1) c.before.before.before.before.lend.ensures.0 c.before.before.before.lend2.ensures.0 c.before.before.find.ensures.0 c.before.if1.false) (refused_is c.refusal2.ensures)
 
 pub narrow-bytes-spec : {M : Type 1} → statement M
 narrow-bytes-spec =
@@ -53,7 +53,7 @@ narrow-bytes-spec =
     (tie.spec
     read-token-requires
     enum-known-kind
-    defect-requires
+    refusal-requires
     enum-known-token
     lend-requires
     lend-requires-2
@@ -61,6 +61,6 @@ narrow-bytes-spec =
     narrow-with-requires
     same_length
     returns
-    refusal-requires
+    refusal-requires-2
     returns-2
     returns-3)

@@ -24,17 +24,17 @@ slice-aggregate-decode c = search rules
 decode-requires : tie.Need-decode-requires
 decode-requires c κs = search rules
 
-enum-known-at : tie.Need-enum-known-at
-enum-known-at c = search rules
-
-defect-requires : tie.Need-defect-requires
-defect-requires c κs = search rules
-
 enum_told : tie.Need-enum-told
 enum_told c = search rules
 
 refusal-requires-2 : tie.Need-refusal-requires-2
 refusal-requires-2 c κs = search rules
+
+enum-told-2 : tie.Need-enum-told-2
+enum-told-2 c = search rules
+
+refusal-requires-3 : tie.Need-refusal-requires-3
+refusal-requires-3 c κs = search rules
 
 enum-known-n : tie.Need-enum-known-n
 enum-known-n c = search rules
@@ -52,10 +52,10 @@ narrow-bytes-requires : tie.Need-narrow-bytes-requires
 narrow-bytes-requires c κs = lent_short _ _ _ _ c.before.before.before.before.before.before.before.decode.ensures c.before.before.before.before.n.given.1 (length-replicate {A = ℕ} 4096 0)
 
 returns-2 : tie.Need-returns-2
-returns-2 c = moved (narrow_not_text c.before.before.before.before.before.before.before.before.before.before.before.before.args.table.now c.before.before.before.before.before.before.before.before.before.before.before.before.args.text.now c.before.before.before.before.before.before.before.before.before.before.before.before.args.caveat.now c.before.before.before.before.before.before.before.if1.false _ (length-replicate {A = ℕ} 4096 0) _ _ c.before.before.before.before.before.decode.ensures c.before.before.at.given.1) (refused_is c.defect.ensures)
+returns-2 c = moved (narrow_not_text c.before.before.before.before.before.before.before.before.before.before.before.args.table.now c.before.before.before.before.before.before.before.before.before.before.before.args.text.now c.before.before.before.before.before.before.before.before.before.before.before.args.caveat.now c.before.before.before.before.before.before.if1.false _ (length-replicate {A = ℕ} 4096 0) _ _ c.before.before.before.before.decode.ensures c.before.enum_told.given.1) (refused_is c.refusal2.ensures)
 
 returns-3 : tie.Need-returns-3
-returns-3 c = moved (narrow_no_room c.before.before.before.before.before.before.before.before.before.before.before.args.table.now c.before.before.before.before.before.before.before.before.before.before.before.args.text.now c.before.before.before.before.before.before.before.before.before.before.before.args.caveat.now c.before.before.before.before.before.before.if1.false _ (length-replicate {A = ℕ} 4096 0) _ _ c.before.before.before.before.decode.ensures c.before.enum_told.given.1) (refused_is c.refusal2.ensures)
+returns-3 c = moved (narrow_no_room c.before.before.before.before.before.before.before.before.before.before.before.args.table.now c.before.before.before.before.before.before.before.before.before.before.before.args.text.now c.before.before.before.before.before.before.before.before.before.before.before.args.caveat.now c.before.before.before.before.before.before.if1.false _ (length-replicate {A = ℕ} 4096 0) _ _ c.before.before.before.before.decode.ensures c.before.enum-told2.given.1) (refused_is c.refusal3.ensures)
 
 same_length : tie.Need-same-length
 same_length c = search rules
@@ -71,10 +71,10 @@ narrow-text-spec =
     returns
     slice-aggregate-decode
     decode-requires
-    enum-known-at
-    defect-requires
     enum_told
     refusal-requires-2
+    enum-told-2
+    refusal-requires-3
     enum-known-n
     sub-narrow-bytes
     part-narrow-bytes-start

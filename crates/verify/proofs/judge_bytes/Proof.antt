@@ -1,5 +1,4 @@
-use mathlib.Core.Path.{sym, ap, ◌∙◌}
-use Rattle.verify.specs.Findings.{plain}
+use mathlib.Core.Path.{sym, ◌∙◌}
 use Rattle.verify.proofs.Found.{unreadable, read_ready, with_its_key, no_key}
 use borrow.Author.Rules.{rules}
 use Rattle.verify.proofs.judge_bytes.Statement.{statement}
@@ -12,9 +11,6 @@ read-token-requires c κs = search rules
 
 enum-known-kind : tie.Need-enum-known-kind
 enum-known-kind c = search rules
-
-answered-requires : tie.Need-answered-requires
-answered-requires c κs = search rules
 
 enum-known-token : tie.Need-enum-known-token
 enum-known-token c = search rules
@@ -31,20 +27,14 @@ find-requires c κs = search rules
 with-key-requires : tie.Need-with-key-requires
 with-key-requires c κs = read_ready c.before.before.before.before.before.before.before.before.before.before.before.before.before.args.s.now (sym c.before.before.before.before.before.before.before.before.before.read-token.ensures ∙ c.before.before.before.before.before.before.before.token.given.1) (λ i. (c.before.before.before.before.before.before.before.before.before.before.before.shared-slice-known2.given i).fits) c.before.before.before.before.before.before.before.before.before.before.before.before.before.requires c.if1.true
 
-answered-requires-2 : tie.Need-answered-requires-2
-answered-requires-2 c κs = search rules
-
 returns : tie.Need-returns
-returns c = c.answered2.ensures ∙ ap plain c.before.with-key.ensures ∙ with_its_key c.before.before.before.before.before.before.before.before.before.before.before.before.before.before.before.args.table.now c.before.before.before.before.before.before.before.before.before.before.before.before.before.before.before.args.s.now c.before.before.before.before.before.before.before.before.before.before.before.before.before.before.before.args.body.now c.before.before.before.before.before.before.before.before.before.before.before.before.before.before.before.args.request (sym c.before.before.before.before.before.before.before.before.before.before.before.read-token.ensures ∙ c.before.before.before.before.before.before.before.before.before.token.given.1) c.before.before.before.before.before.lend.ensures.0 c.before.before.before.before.lend2.ensures.0 c.before.before.before.find.ensures.0 c.before.before.if1.true
-
-answered-requires-3 : tie.Need-answered-requires-3
-answered-requires-3 c κs = search rules
+returns c = c.with-key.ensures ∙ with_its_key c.before.before.before.before.before.before.before.before.before.before.before.before.before.before.args.table.now c.before.before.before.before.before.before.before.before.before.before.before.before.before.before.args.s.now c.before.before.before.before.before.before.before.before.before.before.before.before.before.before.args.body.now c.before.before.before.before.before.before.before.before.before.before.before.before.before.before.args.request (sym c.before.before.before.before.before.before.before.before.before.before.read-token.ensures ∙ c.before.before.before.before.before.before.before.before.token.given.1) c.before.before.before.before.lend.ensures.0 c.before.before.before.lend2.ensures.0 c.before.before.find.ensures.0 c.before.if1.true
 
 returns-2 : tie.Need-returns-2
-returns-2 c = c.answered.ensures ∙ unreadable c.before.before.before.before.before.before.before.before.args.table.now c.before.before.before.before.before.before.before.before.args.s.now c.before.before.before.before.before.before.before.before.args.body.now c.before.before.before.before.before.before.before.before.args.request (sym c.before.before.before.before.read-token.ensures ∙ c.before.before.kind.given.1)
+returns-2 c = unreadable c.before.before.before.before.before.before.before.args.table.now c.before.before.before.before.before.before.before.args.s.now c.before.before.before.before.before.before.before.args.body.now c.before.before.before.before.before.before.before.args.request (sym c.before.before.before.read-token.ensures ∙ c.before.kind.given.1)
 
 returns-3 : tie.Need-returns-3
-returns-3 c = c.answered3.ensures ∙ no_key c.before.before.before.before.before.before.before.before.before.before.before.before.before.before.args.table.now c.before.before.before.before.before.before.before.before.before.before.before.before.before.before.args.s.now c.before.before.before.before.before.before.before.before.before.before.before.before.before.before.args.body.now c.before.before.before.before.before.before.before.before.before.before.before.before.before.before.args.request (sym c.before.before.before.before.before.before.before.before.before.before.read-token.ensures ∙ c.before.before.before.before.before.before.before.before.token.given.1) c.before.before.before.before.lend.ensures.0 c.before.before.before.lend2.ensures.0 c.before.before.find.ensures.0 c.before.if1.false
+returns-3 c = no_key c.before.before.before.before.before.before.before.before.before.before.before.before.before.args.table.now c.before.before.before.before.before.before.before.before.before.before.before.before.before.args.s.now c.before.before.before.before.before.before.before.before.before.before.before.before.before.args.body.now c.before.before.before.before.before.before.before.before.before.before.before.before.before.args.request (sym c.before.before.before.before.before.before.before.before.before.read-token.ensures ∙ c.before.before.before.before.before.before.before.token.given.1) c.before.before.before.lend.ensures.0 c.before.before.lend2.ensures.0 c.before.find.ensures.0 c.if1.false
 
 pub judge-bytes-spec : {M : Type 1} → statement M
 judge-bytes-spec =
@@ -52,14 +42,11 @@ judge-bytes-spec =
     (tie.spec
     read-token-requires
     enum-known-kind
-    answered-requires
     enum-known-token
     lend-requires
     lend-requires-2
     find-requires
     with-key-requires
-    answered-requires-2
     returns
-    answered-requires-3
     returns-2
     returns-3)

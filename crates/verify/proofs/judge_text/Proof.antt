@@ -8,11 +8,8 @@ use Rattle.verify.proofs.judge_text.Tie as tie
 use Rattle.verify.proofs.judge_text.Reads as reads
 use Rattle.verify.proofs.judge_text.Lts as lts
 
-answered-requires : tie.Need-answered-requires
-answered-requires c κs = search rules
-
 returns : tie.Need-returns
-returns c = c.answered.ensures ∙ too_long c.before.before.before.before.before.args.table.now c.before.before.before.before.before.args.text.now c.before.before.before.before.before.args.body.now c.before.before.before.before.before.args.request c.before.if1.true
+returns c = too_long c.before.before.before.before.args.table.now c.before.before.before.before.args.text.now c.before.before.before.before.args.body.now c.before.before.before.before.args.request c.if1.true
 
 slice-aggregate-decode : tie.Need-slice-aggregate-decode
 slice-aggregate-decode c = search rules
@@ -20,17 +17,11 @@ slice-aggregate-decode c = search rules
 decode-requires : tie.Need-decode-requires
 decode-requires c κs = search rules
 
-enum-known-at : tie.Need-enum-known-at
-enum-known-at c = search rules
-
-answered-requires-2 : tie.Need-answered-requires-2
-answered-requires-2 c κs = search rules
-
 enum_told : tie.Need-enum-told
 enum_told c = search rules
 
-answered-requires-3 : tie.Need-answered-requires-3
-answered-requires-3 c κs = search rules
+enum-told-2 : tie.Need-enum-told-2
+enum-told-2 c = search rules
 
 enum-known-n : tie.Need-enum-known-n
 enum-known-n c = search rules
@@ -48,10 +39,10 @@ judge-bytes-requires : tie.Need-judge-bytes-requires
 judge-bytes-requires c κs = lent_short _ _ _ _ c.before.before.before.before.before.before.decode.ensures c.before.before.before.n.given.1 (length-replicate {A = ℕ} 4096 0)
 
 returns-2 : tie.Need-returns-2
-returns-2 c = c.answered2.ensures ∙ not_text c.before.before.before.before.before.before.before.before.before.before.before.args.table.now c.before.before.before.before.before.before.before.before.before.before.before.args.text.now c.before.before.before.before.before.before.before.before.before.before.before.args.body.now c.before.before.before.before.before.before.before.before.before.before.before.args.request c.before.before.before.before.before.before.before.if1.false _ (length-replicate {A = ℕ} 4096 0) _ _ c.before.before.before.before.before.decode.ensures c.before.before.at.given.1
+returns-2 c = not_text c.before.before.before.before.before.before.before.before.before.args.table.now c.before.before.before.before.before.before.before.before.before.args.text.now c.before.before.before.before.before.before.before.before.before.args.body.now c.before.before.before.before.before.before.before.before.before.args.request c.before.before.before.before.before.if1.false _ (length-replicate {A = ℕ} 4096 0) _ _ c.before.before.before.decode.ensures c.enum_told.given.1
 
 returns-3 : tie.Need-returns-3
-returns-3 c = c.answered3.ensures ∙ no_room c.before.before.before.before.before.before.before.before.before.before.args.table.now c.before.before.before.before.before.before.before.before.before.before.args.text.now c.before.before.before.before.before.before.before.before.before.before.args.body.now c.before.before.before.before.before.before.before.before.before.before.args.request c.before.before.before.before.before.before.if1.false _ (length-replicate {A = ℕ} 4096 0) _ _ c.before.before.before.before.decode.ensures c.before.enum_told.given.1
+returns-3 c = no_room c.before.before.before.before.before.before.before.before.before.args.table.now c.before.before.before.before.before.before.before.before.before.args.text.now c.before.before.before.before.before.before.before.before.before.args.body.now c.before.before.before.before.before.before.before.before.before.args.request c.before.before.before.before.before.if1.false _ (length-replicate {A = ℕ} 4096 0) _ _ c.before.before.before.decode.ensures c.enum-told2.given.1
 
 returns-4 : tie.Need-returns-4
 returns-4 c = c.judge-bytes.ensures ∙ whole_text c.before.before.before.before.before.before.before.before.before.before.before.before.before.args.table.now c.before.before.before.before.before.before.before.before.before.before.before.before.before.args.text.now c.before.before.before.before.before.before.before.before.before.before.before.before.before.args.body.now c.before.before.before.before.before.before.before.before.before.before.before.before.before.args.request c.before.before.before.before.before.before.before.before.before.if1.false _ (length-replicate {A = ℕ} 4096 0) _ _ c.before.before.before.before.before.before.before.decode.ensures c.before.before.before.before.n.given.1 (bytes_lent _ _ _ _ c.before.before.before.before.before.before.before.decode.ensures c.before.before.before.before.n.given.1)
@@ -60,14 +51,11 @@ pub judge-text-spec : {M : Type 1} → statement M
 judge-text-spec =
     tie.close
     (tie.spec
-    answered-requires
     returns
     slice-aggregate-decode
     decode-requires
-    enum-known-at
-    answered-requires-2
     enum_told
-    answered-requires-3
+    enum-told-2
     enum-known-n
     sub-judge-bytes
     part-judge-bytes-start

@@ -1,4 +1,4 @@
-//! The file issue.json. The texts and the offsets are the second program's; which calls have a text is said here.
+//! The file issue.json. The texts are the second program's; which calls have one is said here.
 
 use serde_json::Value;
 
@@ -26,7 +26,7 @@ struct Issue {
 
 pub fn file() -> String {
     let about = "Calls of issue: a key table's records, a tid, a kid, a scope and the length of the room; the \
-                 answer, its offset and, where the answer is 0, the text at the front of the room.";
+                 answer and, where it is 0, the text at the front of the room.";
     let groups = [done(), rooms(), longest(), refused_scopes(), refused_ids(), order()];
     file_of(about, groups.iter().flatten().map(laid).collect())
 }
@@ -42,10 +42,10 @@ fn laid(case: &Issue) -> Value {
         ("room", case.room.into()),
     ];
     fields.extend(answered(case.answer, "done"));
-    let mut room = vec![0; case.room];
-    let written = second::issue(&case.table, case.tid.as_bytes(), case.kid.as_bytes(), &case.scope, &mut room);
-    fields.push(("offset", written.offset.into()));
     if case.answer == 0 {
+        let mut room = vec![0; case.room];
+        let written =
+            second::issue(&case.table, case.tid.as_bytes(), case.kid.as_bytes(), &case.scope, &mut room);
         fields.push(("text", text(&room[..written.length as usize])));
     }
     object(fields)

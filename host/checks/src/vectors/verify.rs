@@ -14,7 +14,7 @@ pub fn file() -> String {
         verify_rules::cases(),
         verify_order::cases(),
     ];
-    let about = "Calls of verify: a key table's records, a request body and a token's text; the answer and its offset.";
+    let about = "Calls of verify: a key table's records, a request body and a token's text, and the answer.";
     file_of(about, groups.iter().flatten().map(laid).collect())
 }
 
@@ -27,6 +27,5 @@ fn laid(case: &Verify) -> Value {
         ("token", text(&case.lent.text)),
     ];
     fields.extend(answered(case.answer, "allow"));
-    fields.push(("offset", second::verify(&case.lent.table, &case.lent.request, &case.lent.text).offset.into()));
     object(fields)
 }
