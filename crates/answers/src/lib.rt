@@ -1,10 +1,12 @@
 // The one numbered list of answers: its cases, their numbers and their names.
+#![tactic(auto)]
+
 ghost use Rattle.std.specs.Prelude.{◌≡◌};
 ghost use Rattle.basis.specs.Basis.{Written};
 ghost use Rattle.answers.specs.Answers.{number_of, name_of, answer_of};
 ghost use Rattle.answers.specs.Rows.{row_of};
 
-#[derive(Drop)]
+#[derive(Clone, Copy)]
 pub enum Answer {
     Allow,
     TableBad,
@@ -38,7 +40,7 @@ pub enum Answer {
 }
 
 // What a number stands for: an answer, or nothing, where no answer has this number.
-#[derive(Drop)]
+#[derive(Clone, Copy)]
 pub enum Listed {
     Of(Answer),
     Free,

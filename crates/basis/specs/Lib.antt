@@ -2,3 +2,4 @@ pub mod Basis
 pub mod Tabs
 pub mod Same
 pub mod Limits
+pub mod Bytes

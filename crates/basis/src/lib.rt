@@ -1,19 +1,21 @@
 // What every crate needs of bytes and lent room, and the words that the definitions share.
-ghost use Rattle.std.specs.Prelude.{◌≡◌, min};
+#![tactic(auto)]
+
+ghost use Rattle.std.specs.Prelude.{◌≡◌, ◌++◌, min, length, take, drop};
 ghost use Rattle.basis.specs.Basis.{between, behind, part_place, Written};
 ghost use Rattle.basis.specs.Same.{same_of};
 
 pub mod limits;
 
 // A part of a slice, by where it begins and where it ends.
-#[derive(Drop)]
+#[derive(Clone, Copy)]
 pub struct Span {
     pub from: usize,
     pub to: usize,
 }
 
 // A part that may be absent.
-#[derive(Drop)]
+#[derive(Clone, Copy)]
 pub enum Part {
     Absent,
     At { span: Span },
@@ -26,6 +28,16 @@ pub fn least(a: usize, b: usize) -> usize
     if a < b { a } else { b }
 }
 
+// The front of `from` over the front of `to`, as far as both reach, and how many bytes that is.
+pub fn copy(from: &[u8], to: &mut [u8]) -> usize
+    ensures count { result ≡ min (length from.now) (length to.old) }
+    ensures content { to.new ≡ take result from.now ++ drop result to.old }
+{
+    let n = least(from.len(), to.len());
+    to[..n].copy_from_slice(&from[..n]);
+    n
+}
+
 // Writes a text at the front of the room and says its length, or writes nothing and says 0 where the
 // room is too short.
 pub fn put(text: &[u8], room: &mut [u8]) -> usize
@@ -34,7 +46,7 @@ pub fn put(text: &[u8], room: &mut [u8]) -> usize
     if room.len() < text.len() {
         return 0;
     }
-    bytes::copy(text, room)
+    copy(text, room)
 }
 
 pub fn same(x: &[u8], y: &[u8]) -> bool

@@ -1,5 +1,7 @@
 // The entry points that the firmware calls. Each takes any bytes and asks nothing of them; what they promise
 // is proved to be what the demands say (specs/Demands.antt).
+#![tactic(auto)]
+
 ghost use Rattle.std.specs.Prelude.{◌≡◌};
 ghost use Rattle.verify.specs.Verifying.{verify_of};
 ghost use Rattle.outcome.specs.Decisions.{Carried};

@@ -1,5 +1,7 @@
 // Bundles judged: tables, requests and tokens in one input, and a line for each token. Tables and requests
 // are kept as places in the input; each line is written behind the last.
+#![tactic(auto)]
+
 ghost use Rattle.std.specs.Prelude.{[], ◌+◌, ◌≤◌, length};
 ghost use Rattle.answers.specs.Answers.{answer_of};
 ghost use Rattle.cbor_writing.specs.Placing.{Placed};

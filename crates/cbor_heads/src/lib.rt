@@ -1,5 +1,7 @@
 // Heads of deterministic CBOR in their shortest form, and the numbers and counts that they give. A reader takes a
 // slice of any length and a place in it; a defect carries document 01's number and the place of the item at fault.
+#![tactic(auto)]
+
 ghost use Rattle.std.specs.Prelude.{◌≡◌, ◌<◌, ◌≤◌, length};
 ghost use Rattle.cbor_heads.specs.Reading.{big_of, width_of, read_head};
 ghost use Rattle.cbor_heads.specs.Counts.{read_count, map_with, array_up_to, number_up_to};
@@ -8,21 +10,21 @@ pub mod defect;
 pub mod major;
 
 // How many bytes follow a head's first one, and the least number that they may hold.
-#[derive(Drop)]
+#[derive(Clone, Copy)]
 pub enum Width {
     Here,
     Follow { n: usize, least: u64 },
     Refused,
 }
 
-#[derive(Drop)]
+#[derive(Clone, Copy)]
 pub enum Head {
     Got { major: u8, value: u64, next: usize },
     Bad { at: usize },
 }
 
 // A number or a count, or what is wrong with it: document 01's number and the place.
-#[derive(Drop)]
+#[derive(Clone, Copy)]
 pub enum Count {
     Of { n: u64, next: usize },
     Bad { kind: u32, at: usize },

@@ -1,5 +1,7 @@
 // The keys of each map and the names of t: read as text of any length, found among the names of their
 // place, and told by their index there. A defect carries document 01's number and the place.
+#![tactic(auto)]
+
 ghost use Rattle.std.specs.Prelude.{◌≡◌};
 ghost use Rattle.cbor_keys.specs.Keys.{more_ts};
 ghost use Rattle.cbor_keys.specs.Reading.{index_from, index_of_key, key_at, wanted_key};
@@ -15,7 +17,7 @@ use cbor_values::Item;
 pub mod index;
 
 // The places with names of their own: the keys of each map, and what a caveat's t may be.
-#[derive(Drop)]
+#[derive(Clone, Copy)]
 pub enum Names {
     Token,
     Scope,
@@ -26,7 +28,7 @@ pub enum Names {
 }
 
 // A name by its index among those of its place, and where it ends.
-#[derive(Drop)]
+#[derive(Clone, Copy)]
 pub enum Key {
     Of { index: u32, next: usize },
     Bad { kind: u32, at: usize },

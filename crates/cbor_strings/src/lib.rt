@@ -1,5 +1,7 @@
 // Strings of deterministic CBOR, by their range and class of content. A reader takes a slice of any length and a
 // place in it; a defect carries document 01's number and the place of the item at fault.
+#![tactic(auto)]
+
 ghost use Rattle.std.specs.Prelude.{◌≡◌, not, ◌&&◌, ◌||◌, ◌≤◌, ◌<◌, min, max, length};
 ghost use Rattle.cbor_strings.specs.Strings.{within, all_of, content_of};
 ghost use Rattle.cbor_strings.specs.Inner.{kind_of, kinds_from, near_by, next_seen, seen_by};
@@ -11,7 +13,7 @@ use cbor_heads::defect::{BOUNDS, CBOR};
 use cbor_heads::{Head, major};
 
 // What a string may hold.
-#[derive(Drop)]
+#[derive(Clone, Copy)]
 pub enum Class {
     Name,
     Printable,
@@ -21,7 +23,7 @@ pub enum Class {
 }
 
 // Where a string's content lies, or what is wrong with it: document 01's number and the place.
-#[derive(Drop)]
+#[derive(Clone, Copy)]
 pub enum Content {
     Of { span: Span },
     Bad { kind: u32, at: usize },

@@ -1,5 +1,7 @@
 // The values of a custom caveat: read by recursion with the remaining depth as the falling number, in
 // a slice of any length, with any count of elements. UTF-8 by RFC 3629.
+#![tactic(auto)]
+
 ghost use Rattle.std.specs.Prelude.{◌≡◌, ◌<◌, ◌≤◌, length};
 ghost use Rattle.cbor_values.specs.Utf8.{lead_of, step_of, utf8};
 ghost use Rattle.cbor_values.specs.declared.Tail.TheVariants.{Due};
@@ -10,21 +12,21 @@ use cbor_heads::defect::{BOUNDS, CBOR};
 use cbor_heads::{Head, major};
 
 // How many bytes must still follow, and from where to where the first of them goes.
-#[derive(Drop)]
+#[derive(Clone, Copy)]
 pub enum Tail {
     Due { n: u8, low: u8, high: u8 },
     Never,
 }
 
 // Where an item ends, or what is wrong with it: document 01's number and the place.
-#[derive(Drop)]
+#[derive(Clone, Copy)]
 pub enum Item {
     End { next: usize },
     Bad { kind: u32, at: usize },
 }
 
 // A list as it lies: how many items there are, and from where to where.
-#[derive(Drop)]
+#[derive(Clone, Copy)]
 pub struct ListAt {
     pub count: u64,
     pub span: Span,

@@ -1,5 +1,7 @@
 // CBOR written into room: heads in their shortest form, and strings. A writer takes the room and a place
 // in it, and answers the place behind what it wrote; it is told beforehand that the room holds it.
+#![tactic(auto)]
+
 ghost use Rattle.std.specs.Prelude.{◌≡◌, ◌++◌, ◌+◌, ◌<◌, ◌≤◌, length, drop};
 ghost use Rattle.cbor_heads.specs.Heads.{big, head};
 ghost use Rattle.cbor_strings.specs.Strings.{string};
@@ -7,7 +9,7 @@ ghost use Rattle.cbor_writing.specs.Placing.{Placed};
 ghost use Rattle.cbor_writing.specs.Inner.{Formed};
 
 // The first byte of a head, and how many bytes follow it.
-#[derive(Drop)]
+#[derive(Clone, Copy)]
 pub struct Form {
     pub first: u8,
     pub k: usize,

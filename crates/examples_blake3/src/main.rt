@@ -1,5 +1,7 @@
 // Runs BLAKE3's published keyed vectors: for each length a line with the length, the answer's number
 // and the 32 bytes in hex. tools/vectors makes the expected lines with the official b3sum.
+#![tactic(auto)]
+
 ghost use Rattle.std.specs.Prelude.{◌≡◌, length};
 
 use libc::STDOUT_FILENO;

@@ -3,7 +3,7 @@ use mathlib.Core.Path.{◌≡◌, refl}
 use mathlib.Core.List.{[], ◌∷◌}
 use mathlib.Core.Option.{none}
 use Rattle.basis.specs.Basis.{ascii}
-use Rattle.bytes.specs.Bytes.{index_of, index_after}
+use Rattle.basis.specs.Bytes.{index_of, index_after}
 use Rattle.cbor_heads.specs.Heads.{big, head}
 use Rattle.cbor_heads.specs.Reading.{number_from, width_of, head_by, head_at, read_head}
 use Rattle.cbor_heads.specs.declared.Head.TheVariants.{Bad}

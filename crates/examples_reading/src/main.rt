@@ -1,5 +1,7 @@
 // Runs document 01's examples that are about reading: for each a line that says how many bytes were read,
 // or the name of the first defect and its place.
+#![tactic(auto)]
+
 use answers::Listed;
 use libc::STDOUT_FILENO;
 use text_reading::Decoded;

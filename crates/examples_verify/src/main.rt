@@ -6,6 +6,8 @@
 // the table's row; one example then changes a bit of it. Tokens are tenant-1's under kid-2025-10, one under
 // kid-2025-11. host/checks/tests/verify_examples.rs makes all but these two from their parts with the
 // official crate.
+#![tactic(auto)]
+
 use answers::Listed;
 use libc::STDOUT_FILENO;
 

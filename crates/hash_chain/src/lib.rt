@@ -1,5 +1,7 @@
 // The links of a token's chain. What goes before a scope or a caveat is put together in a small room of its
 // own; the scope and the caveat are hashed where they lie, however long they are.
+#![tactic(auto)]
+
 ghost use Rattle.std.specs.Prelude.{◌≡◌, ◌++◌};
 ghost use Rattle.keyed_hash.specs.KeyedHash.{keyed_hash};
 ghost use Rattle.hash_chain.specs.Chain.{first_link, next_link};

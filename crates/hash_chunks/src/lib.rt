@@ -1,5 +1,7 @@
 // The chunks and parents of BLAKE3's tree in keyed mode. A chunk lies in two parts, which are lent block by
 // block and never joined; only a block that reaches into the first is laid together.
+#![tactic(auto)]
+
 ghost use Rattle.std.specs.Prelude.{◌≡◌, ◌++◌, ◌<◌, ◌≤◌, ◌+◌, length, take, drop};
 ghost use Rattle.basis.specs.Basis.{pick};
 ghost use Rattle.hash_chunks.specs.Chunks.{parent_flag, le32, words_of, blocks_of, chunk_of, parent_of};
@@ -58,8 +60,8 @@ fn block(head: &[u8], body: &[u8]) -> [u32; 16]
     ensures { result ≡ words_of 16 (head.now ++ body.now) }
 {
     let mut b = [0u8; 64];
-    let n = bytes::copy(head, &mut b);
-    bytes::copy(body, &mut b[n..]);
+    let n = basis::copy(head, &mut b);
+    basis::copy(body, &mut b[n..]);
     block_words(&b)
 }
 

@@ -1,11 +1,13 @@
 // BLAKE3's compression function by value. State and message stay in arrays whose elements are read
 // one by one and written all at once, so that the compiler keeps them as single words throughout.
+#![tactic(auto)]
+
 ghost use Rattle.std.specs.Prelude.{◌≡◌, ◌<◌};
 ghost use Rattle.hash_mixing.specs.Compression.{plus, turn, half_of, mix_of, columns_of, diagonals_of, rounds_of, compress_of};
 ghost use Rattle.hash_mixing.specs.Order.{InBlock, picked_of};
 
 // Four words of the state on their way through the mixing.
-#[derive(Drop)]
+#[derive(Clone, Copy)]
 struct Quad {
     a: u32,
     b: u32,

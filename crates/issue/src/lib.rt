@@ -1,5 +1,7 @@
 // Issue: a fresh token for a scope. Any bytes may come; they are judged in document 01's order, and the room gets
 // only what is handed out whole.
+#![tactic(auto)]
+
 ghost use Rattle.outcome.specs.Decisions.{Carried};
 ghost use Rattle.issue.specs.Issuing.{issue_with, issue_of};
 ghost use Rattle.issue.specs.Inner.{Issuable};

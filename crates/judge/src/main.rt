@@ -1,6 +1,8 @@
 // Judges the bundle on standard input and writes its lines to standard output. One byte more is read than a
 // bundle may have, so that a longer one is seen to be longer. Where a read fails nothing is judged, since what
 // came before may be a part of a bundle: the one line is "bundle.bad".
+#![tactic(auto)]
+
 ghost use Rattle.std.specs.Prelude.{length};
 ghost use Rattle.judge.specs.Reading.{Brought, Came};
 ghost use Rattle.judge.specs.Lined.{Lined};
@@ -9,7 +11,7 @@ use basis::limits;
 use libc::{STDERR_FILENO, STDIN_FILENO, STDOUT_FILENO};
 
 // What one read came to.
-#[derive(Drop)]
+#[derive(Clone, Copy)]
 enum Turn {
     More(usize),
     End,
@@ -17,7 +19,7 @@ enum Turn {
 }
 
 // What all reads came to: so many bytes before the end, or before the room was full; or a failed read.
-#[derive(Drop)]
+#[derive(Clone, Copy)]
 enum Input {
     Whole(usize),
     Failed,

@@ -1,5 +1,7 @@
 // BLAKE3 in keyed mode over a message that lies in two parts, so that a caveat is hashed where it lies,
 // behind the words that go before it. The parts are cut, lent and compressed, and never joined.
+#![tactic(auto)]
+
 ghost use Rattle.std.specs.Prelude.{◌≡◌, ◌++◌, ◌<◌, ◌≤◌, ◌+◌, ◌^◌, length};
 ghost use Rattle.hash_chunks.specs.Chunks.{root_flag};
 ghost use Rattle.keyed_hash.specs.Tree.{bytes_of_words, tree_of};
@@ -13,7 +15,7 @@ const ROOT: u32 = 8;
 
 // The answer's number, and the hash or 32 zero bytes.
 #[repr(C)]
-#[derive(Drop)]
+#[derive(Clone, Copy)]
 pub struct Hashed {
     pub answer: u32,
     pub bytes: [u8; 32],
@@ -21,7 +23,7 @@ pub struct Hashed {
 
 // No code uses it. Only this crate can name it, so that only its proofs can say how the hash is made: the
 // law `hash_is` asks for one.
-#[derive(Drop)]
+#[derive(Clone, Copy)]
 enum Inside {
     Here,
 }

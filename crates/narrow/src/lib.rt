@@ -1,5 +1,7 @@
 // Narrow: a child with one caveat more, of a parent that is read, found and rightly tagged. Any bytes may come; they
 // are judged in document 01's order, and the room gets only what is handed out whole.
+#![tactic(auto)]
+
 ghost use Rattle.std.specs.Prelude.{◌≤◌, length};
 ghost use Rattle.basis.specs.Limits.{token_most};
 ghost use Rattle.verify_walk.specs.Ready.{Ready};

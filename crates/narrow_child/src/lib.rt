@@ -1,5 +1,7 @@
 // The child of a token that may be narrowed: the added caveat is read, and the parent's parts are written again with
 // it behind their caveats and the next link as their tag.
+#![tactic(auto)]
+
 ghost use Rattle.std.specs.Prelude.{◌≡◌, length};
 ghost use Rattle.basis.specs.Limits.{key_length};
 ghost use Rattle.token_caveat.specs.Reading.{caveat_of};

@@ -1,5 +1,7 @@
 // What issue and narrow hand out: a number and a length, and the room's content. A refusal is made in one place, and
 // a text is written whole or not at all.
+#![tactic(auto)]
+
 ghost use Rattle.std.specs.Prelude.{◌≡◌, ◌≤◌, length};
 ghost use Rattle.basis.specs.Limits.{token_most};
 ghost use Rattle.text_writing.specs.Base64url.{base64url};
@@ -9,7 +11,7 @@ use text_writing::Encoded;
 
 // 0 and the text's length, or the number of the first check that fails and 0.
 #[repr(C)]
-#[derive(Drop)]
+#[derive(Clone, Copy)]
 pub struct Outcome {
     pub answer: u32,
     pub length: u32,

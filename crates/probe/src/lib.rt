@@ -1,4 +1,6 @@
 // What the host tests call beyond the product's entry points. Nothing of the product stands on it.
+#![tactic(auto)]
+
 ghost use Rattle.std.specs.Prelude.{◌≡◌, ◌++◌};
 ghost use Rattle.keyed_hash.specs.KeyedHash.{hashed_of};
 ghost use Rattle.cbor_heads.specs.Reading.{read_head};
@@ -20,7 +22,7 @@ use token_cidr::Cidr;
 
 // An answer as numbers: a host cannot take an enum apart by Rattle's layout.
 #[repr(C)]
-#[derive(Drop)]
+#[derive(Clone, Copy)]
 pub struct Probed {
     pub kind: u32,
     pub first: u64,

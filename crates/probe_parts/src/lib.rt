@@ -1,4 +1,6 @@
 // Scopes, caveats and tokens as the host tests read them. Nothing of the product stands on it.
+#![tactic(auto)]
+
 ghost use Rattle.std.specs.Prelude.{◌≡◌, ◌++◌};
 ghost use Rattle.basis.specs.Basis.{Written};
 ghost use Rattle.token.specs.Tokens.{token_bytes};
@@ -18,7 +20,7 @@ use token_scope::{Limit, ScopeParts};
 
 // An answer as numbers: a host cannot take an enum apart by Rattle's layout.
 #[repr(C)]
-#[derive(Drop)]
+#[derive(Clone, Copy)]
 pub struct Parts {
     pub kind: u32,
     pub numbers: [u64; 10],

@@ -1,4 +1,6 @@
 // Key tables and requests as the host tests read them. Nothing of the product stands on it.
+#![tactic(auto)]
+
 ghost use Rattle.std.specs.Prelude.{◌≡◌};
 ghost use Rattle.basis.specs.Basis.{Written};
 ghost use Rattle.records_table.specs.Reading.{table_ok, lookup_of};
@@ -10,14 +12,14 @@ use records_request::{RateAt, RequestParts};
 
 // An answer as numbers: a host cannot take an enum apart by Rattle's layout.
 #[repr(C)]
-#[derive(Drop)]
+#[derive(Clone, Copy)]
 pub struct Listed {
     pub kind: u32,
     pub numbers: [u64; 20],
 }
 
 // Whether a part is there, and its numbers.
-#[derive(Drop)]
+#[derive(Clone, Copy)]
 pub struct Told {
     pub there: u64,
     pub a: u64,

@@ -1,5 +1,7 @@
 // House records: little-endian numbers, records with their kind, strings behind their lengths. A reader
 // takes a slice of any length and a place in it; there is one defect, that it is not there as it should be.
+#![tactic(auto)]
+
 ghost use Rattle.std.specs.Prelude.{◌≡◌, ◌≤◌, length};
 ghost use Rattle.records.specs.Records.{little_of};
 ghost use Rattle.records.specs.Reading.{run_at, little_at, text_at, read_record};
@@ -8,27 +10,27 @@ use basis::Span;
 use cbor_strings::Class;
 
 // Some bytes, by where they lie.
-#[derive(Drop)]
+#[derive(Clone, Copy)]
 pub enum Run {
     Of { span: Span },
     Bad,
 }
 
 // A number, and where it ends.
-#[derive(Drop)]
+#[derive(Clone, Copy)]
 pub enum Number {
     Of { n: u64, next: usize },
     Bad,
 }
 
 // A record's kind, and where its body lies.
-#[derive(Drop)]
+#[derive(Clone, Copy)]
 pub struct RecordAt {
     pub kind: u64,
     pub body: Span,
 }
 
-#[derive(Drop)]
+#[derive(Clone, Copy)]
 pub enum RecordParts {
     Of { record: RecordAt },
     Bad,

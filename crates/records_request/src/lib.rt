@@ -1,4 +1,6 @@
 // Request bodies. The reader takes a slice of any length; there is one defect, for ctx.bad has no place.
+#![tactic(auto)]
+
 ghost use Rattle.std.specs.Prelude.{◌≡◌};
 ghost use Rattle.records_request.specs.Reading.{fixed_at, peer_at, digest_at, rate_at, extras_at, audience_at, strings_at, request_with, fixed_then, request_of};
 
@@ -9,7 +11,7 @@ use records::{Number, Run};
 pub mod flag;
 
 // What stands in every body before the parts that the flags tell of.
-#[derive(Drop)]
+#[derive(Clone, Copy)]
 pub struct Numbers {
     pub now: u64,
     pub size: u64,
@@ -17,45 +19,45 @@ pub struct Numbers {
     pub flags: u64,
 }
 
-#[derive(Drop)]
+#[derive(Clone, Copy)]
 pub enum Fixed {
     Of { numbers: Numbers, next: usize },
     Bad,
 }
 
 // A part that stands there if it is flagged, and where the next one begins.
-#[derive(Drop)]
+#[derive(Clone, Copy)]
 pub enum PartStep {
     Of { part: Part, next: usize },
     Bad,
 }
 
-#[derive(Drop)]
+#[derive(Clone, Copy)]
 pub enum RateAt {
     Absent,
     Of { per_s: u64, burst: u64 },
 }
 
-#[derive(Drop)]
+#[derive(Clone, Copy)]
 pub enum RateStep {
     Of { rate: RateAt, next: usize },
     Bad,
 }
 
-#[derive(Drop)]
+#[derive(Clone, Copy)]
 pub struct ExtrasAt {
     pub peer: Part,
     pub digest: Part,
     pub rate: RateAt,
 }
 
-#[derive(Drop)]
+#[derive(Clone, Copy)]
 pub enum Extras {
     Of { extras: ExtrasAt, next: usize },
     Bad,
 }
 
-#[derive(Drop)]
+#[derive(Clone, Copy)]
 pub struct StringsAt {
     pub method: Span,
     pub path: Span,
@@ -63,14 +65,14 @@ pub struct StringsAt {
     pub audience: Part,
 }
 
-#[derive(Drop)]
+#[derive(Clone, Copy)]
 pub enum Strings {
     Of { strings: StringsAt },
     Bad,
 }
 
 // What a request holds: its numbers, and where its strings lie in its body.
-#[derive(Drop)]
+#[derive(Clone, Copy)]
 pub struct RequestAt {
     pub now: u64,
     pub size: u64,
@@ -85,7 +87,7 @@ pub struct RequestAt {
     pub audience: Part,
 }
 
-#[derive(Drop)]
+#[derive(Clone, Copy)]
 pub enum RequestParts {
     Of { request: RequestAt },
     Bad,

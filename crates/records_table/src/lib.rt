@@ -1,5 +1,7 @@
 // Key tables: rows of tid, kid and key, strictly ascending. The whole table is judged on every call, and
 // the key is handed back as a part of the table.
+#![tactic(auto)]
+
 ghost use Rattle.std.specs.Prelude.{◌≡◌};
 ghost use Rattle.records_table.specs.Order.{before_of, ascends, same_ids};
 ghost use Rattle.basis.specs.Basis.{between, behind};
@@ -13,14 +15,14 @@ use cbor_strings::Class;
 use records::{RecordParts, Run};
 
 // Where the parts of a row lie; the row ends where its key does.
-#[derive(Drop)]
+#[derive(Clone, Copy)]
 pub struct RowAt {
     pub tid: Span,
     pub kid: Span,
     pub key: Span,
 }
 
-#[derive(Drop)]
+#[derive(Clone, Copy)]
 pub enum RowParts {
     Of { row: RowAt },
     Bad,

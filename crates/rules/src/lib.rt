@@ -1,4 +1,6 @@
 // What holds when: document 01's rules, judged where the parts lie.
+#![tactic(auto)]
+
 ghost use Rattle.std.specs.Prelude.{◌≡◌};
 ghost use Rattle.rules.specs.Judging.{scope_judged, caveat_held, failing_of, caveat_judged};
 

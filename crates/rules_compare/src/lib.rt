@@ -1,5 +1,7 @@
 // The comparisons that scope and caveats are judged by, each of one part of a token with one part of a request,
 // where they lie.
+#![tactic(auto)]
+
 ghost use Rattle.std.specs.Prelude.{◌≡◌, ◌+◌, nat_le};
 ghost use Rattle.rules_compare.specs.Fitting.{fits_of};
 ghost use Rattle.rules_compare.specs.Comparing.{member_in, rate_holds, prefix_fits, limit_holds};

@@ -8,7 +8,7 @@ use borrow.Author.Tests.{eqb-true, ltb-true, ltb-false, lt-ltb, le-ltb}
 use lib.Bits.{bit_or, or_lt, or_comm, or_add_and, and_le_r}
 use lib.Dec.{eqb, ltb}
 use lib.ListN.{length, get_or}
-use Rattle.bytes.specs.Bytes.{index_of, index_after}
+use Rattle.basis.specs.Bytes.{index_of, index_after}
 use Rattle.basis.proofs.All.{all, all_at}
 use Rattle.text_writing.specs.Base64url.{alphabet, letter_of}
 use Rattle.text_reading.specs.Reading.{digit_of, four_letters}

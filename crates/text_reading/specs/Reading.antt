@@ -1,7 +1,7 @@
 -- Reading. Reading a text: its first defect by document 02's rule for places (the first bad character; else a wrong length, at the end;
 -- else unused bits, at the last character), or the bytes that it stands for.
 use Rattle.std.specs.Prelude.{◌≡◌, Bool, ◌&&◌, List, [], ◌∷◌, ℕ, suc, ◌+◌, ◌-◌, ◌*◌, ◌/◌, ◌%◌, length, ltb, leb, eqb}
-use Rattle.bytes.specs.Bytes.{index_of}
+use Rattle.basis.specs.Bytes.{index_of}
 use Rattle.basis.specs.Basis.{pick, over}
 use Rattle.text_writing.specs.Base64url.{alphabet}
 use Rattle.text_reading.specs.declared.Judged.{Judged}

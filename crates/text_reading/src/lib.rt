@@ -1,5 +1,7 @@
 // Base64URL text without padding to bytes. A text is judged before a byte of it is written, so a refusal leaves
 // the room as it was.
+#![tactic(auto)]
+
 ghost use Rattle.std.specs.Prelude.{◌≡◌, ◌<◌, length};
 ghost use Rattle.basis.specs.Basis.{over};
 ghost use Rattle.text_reading.specs.Reading.{digit_of, four_letters, bad_at, judged_of, bytes_of, Filled};
@@ -25,13 +27,13 @@ const DIGITS: [u8; 256] = *b"\x40\x40\x40\x40\x40\x40\x40\x40\x40\x40\x40\x40\x4
                              \x40\x40\x40\x40\x40\x40\x40\x40\x40\x40\x40\x40\x40\x40\x40\x40";
 
 // What a text is: so many bytes, or where it is first at fault.
-#[derive(Drop)]
+#[derive(Clone, Copy)]
 pub enum Judged {
     Whole { n: usize },
     Fault { at: usize },
 }
 
-#[derive(Drop)]
+#[derive(Clone, Copy)]
 pub enum Decoded {
     Bytes { n: usize },
     Bad { at: usize },

@@ -1,4 +1,6 @@
 // Bytes to Base64URL text without padding: the text is written whole, or the room stays as it was.
+#![tactic(auto)]
+
 ghost use Rattle.std.specs.Prelude.{◌≡◌, ◌<◌, ◌≤◌, length};
 ghost use Rattle.basis.specs.Basis.{over};
 ghost use Rattle.text_writing.specs.Base64url.{base64url, letter_of, tail_length, text_length};
@@ -8,7 +10,7 @@ ghost use Rattle.text_writing.specs.Writing.{Encoding};
 // The compiler lays the table out anew where it is named, so that the loop is lent it.
 const LETTERS: [u8; 64] = *b"ABCDEFGHIJKLMNOPQRSTUVWXYZabcdefghijklmnopqrstuvwxyz0123456789-_";
 
-#[derive(Drop)]
+#[derive(Clone, Copy)]
 pub enum Encoded {
     Text { n: usize },
     NoRoom,

@@ -1,6 +1,8 @@
 // Tokens: what they are, how they are written and how they are read. A token is read whole from its first
 // byte to its last; each caveat is read where it lies. A defect carries document 01's number and the place
 // of the item at fault.
+#![tactic(auto)]
+
 ghost use Rattle.std.specs.Prelude.{◌≡◌};
 ghost use Rattle.token.specs.Reading.{token_of};
 
@@ -10,7 +12,7 @@ use token_back::BackParts;
 use token_front::FrontParts;
 
 // Where the parts of a token lie.
-#[derive(Drop)]
+#[derive(Clone, Copy)]
 pub struct TokenAt {
     pub caveats: ListAt,
     pub scope: Span,
@@ -20,7 +22,7 @@ pub struct TokenAt {
 }
 
 // Where a token's parts lie, or what is wrong with it.
-#[derive(Drop)]
+#[derive(Clone, Copy)]
 pub enum TokenParts {
     Of { token: TokenAt },
     Bad { kind: u32, at: usize },

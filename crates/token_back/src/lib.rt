@@ -1,5 +1,7 @@
 // The back of a token: tag, version, kid and tid, and nothing behind them. A defect carries document 01's number and
 // the place of the item at fault.
+#![tactic(auto)]
+
 ghost use Rattle.std.specs.Prelude.{◌≡◌};
 ghost use Rattle.token_back.specs.Back.{tag_field, version_field, back_of};
 
@@ -11,14 +13,14 @@ use cbor_strings::Content;
 use cbor_values::Item;
 
 // Where tag, kid and tid lie.
-#[derive(Drop)]
+#[derive(Clone, Copy)]
 pub struct BackAt {
     pub tag: Span,
     pub kid: Span,
     pub tid: Span,
 }
 
-#[derive(Drop)]
+#[derive(Clone, Copy)]
 pub enum BackParts {
     Of { back: BackAt },
     Bad { kind: u32, at: usize },

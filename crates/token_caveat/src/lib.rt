@@ -1,6 +1,8 @@
 // Caveats: what they are, how they are written and how they are read. A reader is lent a part that begins
 // with the caveat's first byte, whatever stands behind it; a defect carries document 01's number and the
 // place of the item at fault.
+#![tactic(auto)]
+
 ghost use Rattle.std.specs.Prelude.{◌≡◌};
 ghost use Rattle.cbor_strings.specs.declared.Class.{Class};
 ghost use Rattle.token_caveat.specs.Reading.{caveat_of};

@@ -1,5 +1,7 @@
 // The values of caveats, a reader for each kind: number, text, digest, methods, address prefix, rate, flag and
 // custom value. A defect carries document 01's number and the place of the item at fault.
+#![tactic(auto)]
+
 ghost use Rattle.std.specs.Prelude.{◌≡◌};
 ghost use Rattle.cbor_strings.specs.declared.Class.{Class};
 ghost use Rattle.token_caveat_values.specs.Values.{number_value, text_value, digest_value};
@@ -17,7 +19,7 @@ use token_cidr::{Cidr, Network};
 use token_scope::MethodsParts;
 
 // Where the parts of a custom caveat lie.
-#[derive(Drop)]
+#[derive(Clone, Copy)]
 pub struct CustomAt {
     pub ns: Span,
     pub value: Span,
@@ -25,7 +27,7 @@ pub struct CustomAt {
 }
 
 // A caveat by value: its numbers, and where its strings and lists lie in the part.
-#[derive(Drop)]
+#[derive(Clone, Copy)]
 pub enum CaveatAt {
     Exp { n: u64 },
     Nbf { n: u64 },
@@ -42,14 +44,14 @@ pub enum CaveatAt {
 }
 
 // A caveat and its length, or what is wrong with it.
-#[derive(Drop)]
+#[derive(Clone, Copy)]
 pub enum CaveatParts {
     Of { caveat: CaveatAt, next: usize },
     Bad { kind: u32, at: usize },
 }
 
 // The caveats whose value is a number.
-#[derive(Drop)]
+#[derive(Clone, Copy)]
 pub enum NumberOf {
     Exp,
     Nbf,
@@ -57,7 +59,7 @@ pub enum NumberOf {
 }
 
 // The caveats whose value is a text.
-#[derive(Drop)]
+#[derive(Clone, Copy)]
 pub enum TextOf {
     Aud,
     PathPrefix,

@@ -1,5 +1,7 @@
 // The text of an IPv4 prefix, judged whole: one spelling for each prefix, anything else is refused.
 // And whether first bits agree, over strings of bytes of any length, so that no width is written here.
+#![tactic(auto)]
+
 ghost use Rattle.std.specs.Prelude.{◌≡◌, ◌-◌, ◌%◌, ◌^◌, eqb};
 ghost use Rattle.basis.specs.Limits.{cidr_most};
 ghost use Rattle.token_cidr.specs.Bits.{agree_of};
@@ -9,14 +11,14 @@ ghost use Rattle.token_cidr.specs.Inner.{Bytes4};
 
 use basis::limits;
 
-#[derive(Drop)]
+#[derive(Clone, Copy)]
 pub enum Decimal {
     Got { value: u32, next: usize },
     No,
 }
 
 // The address's bytes in written order, and how many of its bits count.
-#[derive(Drop)]
+#[derive(Clone, Copy)]
 pub struct Network {
     pub a: u32,
     pub b: u32,
@@ -25,7 +27,7 @@ pub struct Network {
     pub size: u32,
 }
 
-#[derive(Drop)]
+#[derive(Clone, Copy)]
 pub enum Cidr {
     Of { network: Network },
     Bad,

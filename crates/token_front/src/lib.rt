@@ -1,5 +1,7 @@
 // The front of a token: the map's head, the caveats where they lie, and the scope. A defect carries document 01's
 // number and the place of the item at fault.
+#![tactic(auto)]
+
 ghost use Rattle.std.specs.Prelude.{◌≡◌, drop};
 ghost use Rattle.cbor_values.specs.Reading.{items_of};
 ghost use Rattle.token_caveat.specs.Reading.{caveat_of};
@@ -14,13 +16,13 @@ use token_caveat_values::CaveatParts;
 use token_scope::ScopeParts;
 
 // Where the caveats and the scope lie.
-#[derive(Drop)]
+#[derive(Clone, Copy)]
 pub struct FrontAt {
     pub caveats: ListAt,
     pub scope: Span,
 }
 
-#[derive(Drop)]
+#[derive(Clone, Copy)]
 pub enum FrontParts {
     Of { front: FrontAt },
     Bad { kind: u32, at: usize },

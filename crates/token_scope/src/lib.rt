@@ -1,5 +1,7 @@
 // Scopes: what they are, how they are written and how they are read. A reader takes a slice of any length
 // and a place in it; a defect carries document 01's number and the place of the item at fault.
+#![tactic(auto)]
+
 ghost use Rattle.std.specs.Prelude.{◌≡◌};
 ghost use Rattle.cbor_values.specs.Reading.{items_of};
 ghost use Rattle.token_scope.specs.Methods.{methods_of};
@@ -14,20 +16,20 @@ use cbor_strings::{Class, Content};
 use cbor_values::{Item, ListAt};
 
 // Where a method list lies, or what is wrong with it.
-#[derive(Drop)]
+#[derive(Clone, Copy)]
 pub enum MethodsParts {
     Of { methods: ListAt },
     Bad { kind: u32, at: usize },
 }
 
-#[derive(Drop)]
+#[derive(Clone, Copy)]
 pub enum Limit {
     Absent,
     Of { n: u64 },
 }
 
 // Where a scope's parts lie.
-#[derive(Drop)]
+#[derive(Clone, Copy)]
 pub struct ScopeAt {
     pub prefix: Part,
     pub methods: ListAt,
@@ -35,7 +37,7 @@ pub struct ScopeAt {
 }
 
 // A scope and where it ends, or what is wrong with it.
-#[derive(Drop)]
+#[derive(Clone, Copy)]
 pub enum ScopeParts {
     Of { scope: ScopeAt, next: usize },
     Bad { kind: u32, at: usize },

@@ -1,5 +1,7 @@
 // Tokens written into room: the bytes of a fresh token around a scope, and of a child around its parent's
 // parts and one caveat more. The room is asked for first, so that a refusal leaves it as it was.
+#![tactic(auto)]
+
 ghost use Rattle.std.specs.Prelude.{◌≡◌, ◌++◌, ◌+◌, ◌≤◌, min, length};
 ghost use Rattle.basis.specs.Basis.{Written};
 ghost use Rattle.token.specs.Tokens.{token_bytes};

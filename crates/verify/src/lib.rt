@@ -1,5 +1,7 @@
 // Tokens judged: verify takes any bytes, judges them itself, and answers a number of the one list, in
 // document 01's order.
+#![tactic(auto)]
+
 ghost use Rattle.std.specs.Prelude.{◌≡◌, ◌≤◌, length};
 ghost use Rattle.basis.specs.Limits.{token_most};
 ghost use Rattle.verify.specs.Verifying.{bytes_judged, text_judged, verify_of};

@@ -1,5 +1,7 @@
 // A token whose key is found: one walk reads, hashes and judges its caveats where they lie; then the tag decides
 // first, and behind it tenant, scope and caveats.
+#![tactic(auto)]
+
 ghost use Rattle.std.specs.Prelude.{◌≡◌};
 ghost use Rattle.basis.specs.Basis.{from_to, between};
 ghost use Rattle.basis.specs.Same.{same_of};
@@ -17,7 +19,7 @@ use token_caveat_values::{CaveatAt, CaveatParts};
 use token_scope::ScopeParts;
 
 // The last link, and the answer of the first caveat that fails.
-#[derive(Drop)]
+#[derive(Clone, Copy)]
 pub struct Walked {
     pub link: [u8; 32],
     pub answer: u32,
