@@ -1,6 +1,6 @@
 -- Meaning. What a path must not hold: in a request, in a scope and in path_prefix. Document 02, M-106: "Refuse a request path with "%", "//", or a
 -- segment "." or ".." as ctx.bad. Refuse the same in a scope prefix or path_prefix as bad content."
-use Rattle.std.specs.Prelude.{Bool, true, false, not, ◌||◌, List, [], ◌∷◌, ℕ, eqb}
+use Rattle.std.specs.Prelude.{Bool, true, false, ◌||◌, List, [], ◌∷◌, ℕ, eqb}
 use Rattle.basis.specs.Basis.{pick, ascii}
 use Rattle.basis.specs.Same.{same_of}
 
