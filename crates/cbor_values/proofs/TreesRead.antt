@@ -59,7 +59,7 @@ module _ (d : ℕ) (s : List ℕ) (b : IsBytes s) (at : ℕ) {major n nx : ℕ} 
   is_number {next} h e = by (eqb major 0) refl
     where
       by : (z : Bool) → eqb major 0 ≡ z → IsValue d s at next
-      by true p = let m = eqb_true major 0 p in let x : nx ≡ next = cc in record { tree = number n; good = bounded; there = rw (← x, ← m) headed }
+      by true p = let m = eqb-true major 0 p in let x : nx ≡ next = cc in record { tree = number n; good = bounded; there = rw (← x, ← m) headed }
       by false p =
           let f = eqb-false major 0 p in
           let m : major ≡ 1 = omega arith in
@@ -143,10 +143,10 @@ module _ (d : ℕ) (s : List ℕ) (b : IsBytes s) (at next : ℕ) (f : ℕ → �
       → pick x2 (End nx) (pick y2 (run_of s at nx n) (pick y3 (text_of s at nx n) (pick y4 (f n nx)
       (pick y7 (pick (ltb n 20) (Bad 4 at) (pick (leb n 22) (End nx) (Bad 4 at))) (Bad 4 at))))) ≡ End next → IsValue d s at next
   by_major_lem {major} q true p y2 p2 y3 p3 y4 p4 y7 p7 e = is_number d s b at q (ltb-true major 2 p) e
-  by_major_lem {major} q false p true p2 y3 p3 y4 p4 y7 p7 e = is_bytes d s b at q (eqb_true major 2 p2) e
-  by_major_lem {major} q false p false p2 true p3 y4 p4 y7 p7 e = is_text d s b at q (eqb_true major 3 p3) e
-  by_major_lem {major} {n} {nx} q false p false p2 false p3 true p4 y7 p7 e = arrays major n nx q (eqb_true major 4 p4) e
-  by_major_lem {major} q false p false p2 false p3 false p4 true p7 e = is_simple d s b at q (eqb_true major 7 p7) e
+  by_major_lem {major} q false p true p2 y3 p3 y4 p4 y7 p7 e = is_bytes d s b at q (eqb-true major 2 p2) e
+  by_major_lem {major} q false p false p2 true p3 y4 p4 y7 p7 e = is_text d s b at q (eqb-true major 3 p3) e
+  by_major_lem {major} {n} {nx} q false p false p2 false p3 true p4 y7 p7 e = arrays major n nx q (eqb-true major 4 p4) e
+  by_major_lem {major} q false p false p2 false p3 false p4 true p7 e = is_simple d s b at q (eqb-true major 7 p7) e
   by_major_lem q false p false p2 false p3 false p4 false p7 e = let z : ◌≡◌ {A = ℕ} 0 1 = cc in let z : ⊥ = omega arith in elim z [ ]
 
   by_head : by_major f s at (read_head s at) ≡ End next → IsValue d s at next
