@@ -1,0 +1,12 @@
+use mathlib.Core.Path.{◌≡◌}
+use Prim.Native.Nat.{◌-◌, ◌*◌}
+use lib.ListN.{length}
+use Rattle.basis.proofs.Tabs.{Tabbed}
+use Rattle.hash_chunks.specs.Chunks.{le32}
+use Rattle.hash_chunks.proofs.key_words.Given as goal
+
+abbrev pub invariant-loop-i : goal.invariant-loop-i
+invariant-loop-i l = (length l.initial.w ≡ 8) × Tabbed (λ i. le32 l.key (i * 4)) l.initial.w l.w l.i
+
+abbrev pub decreases-loop-i : goal.decreases-loop-i
+decreases-loop-i l = 8 - l.i
