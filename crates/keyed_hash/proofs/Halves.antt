@@ -29,14 +29,14 @@ module _ (key s : List ℕ) (counter root : ℕ) where
           let k = leb-true h n e in
           let m = pow_mono k in
           rw (le-leb (length s) (full_of n) (omega arith)) (more k)
-      by false e more = let k = leb_false h n e in let z : h ≡ suc n = omega arith in rw z
+      by false e more = let k = leb-false h n e in let z : h ≡ suc n = omega arith in rw z
 
   pub any_height : (h n : ℕ) → length s ≤ full_of h → length s ≤ full_of n → tree_of key h s counter root ≡ tree_of key n s counter root
   any_height h n g f = by (leb h n) refl
     where
       by : (b : Bool) → leb h n ≡ b → tree_of key h s counter root ≡ tree_of key n s counter root
       by true e = sym (taller h n (leb-true h n e) g)
-      by false e = let k = leb_false h n e in taller n h (omega arith) f
+      by false e = let k = leb-false h n e in taller n h (omega arith) f
 
   pub one_chunk : (h : ℕ) → length s ≤ 1024 → chunk_of key s counter root ≡ tree_of key h s counter root
   unfolding tree_of

@@ -128,8 +128,7 @@ pub fn keyed_hash(key: &[u8], message: &[u8]) -> Hashed
 }
 
 // For C: include/bhinorpa.h has its declaration.
-#[unsafe(no_mangle)]
-pub extern "C" fn bhinorpa_keyed_hash(key: &[u8], message: &[u8]) -> Hashed
+pub fn bhinorpa_keyed_hash(key: &[u8], message: &[u8]) -> Hashed
     ensures { result ≡ hashed_of key.now message.now }
 {
     keyed_hash(key, message)
