@@ -33,7 +33,7 @@ digit_front_lem (c ∷ t) h = by (ltb c 48) refl (ltb 57 c) refl h
     by : (a : Bool) → ltb c 48 ≡ a → (b : Bool) → ltb 57 c ≡ b → pick a 10 (pick b 10 (c - 48)) ≤ 9 → c ∷ t ≡ (48 + pick a 10 (pick b 10 (c - 48))) ∷ t
     by true p b q h = let z : ⊥ = omega arith in elim z [ ]
     by false p true q h = let z : ⊥ = omega arith in elim z [ ]
-    by false p false q h = let l = ltb_false c 48 p in let e : c ≡ 48 + (c - 48) = omega arith in ap (λ (x : ℕ). x ∷ t) e
+    by false p false q h = let l = ltb-false c 48 p in let e : c ≡ 48 + (c - 48) = omega arith in ap (λ (x : ℕ). x ∷ t) e
 
 digit_there : (s : List ℕ) (at : ℕ) → digit_at s at ≤ 9 → drop at s ≡ (48 + digit_at s at) ∷ drop (at + 1) s
 digit_there s at h = digit_front_lem (drop at s) h ∙ ap (λ (t : List ℕ). (48 + digit_at s at) ∷ t) (drop-drop 1 at s)
@@ -53,8 +53,8 @@ form v h = by (ltb v 10) refl (ltb v 100) refl
   where
     by : (a : Bool) → ltb v 10 ≡ a → (b : Bool) → ltb v 100 ≡ b → Form v
     by true p b q = one (ltb-true v 10 p)
-    by false p true q = two (ltb_false v 10 p) (ltb-true v 100 q)
-    by false p false q = three (ltb_false v 100 q) h
+    by false p true q = two (ltb-false v 10 p) (ltb-true v 100 q)
+    by false p false q = three (ltb-false v 100 q) h
 
 one_is : (v : ℕ) → v < 10 → decimal v ≡ (48 + v) ∷ []
 unfolding decimal
@@ -120,14 +120,14 @@ number_by s at x y z ex ey ez false p true q c r d t {v} {next} e =
 number_by s at x y z ex ey ez false p false q true r d t {v} {next} e =
     let i : at + 1 ≡ next = cc in
     let o : x ≡ v = cc in
-    let h = ltb_false 9 x p in
+    let h = ltb-false 9 x p in
     let f = rw (ex, i) at (digit_there s at (rw ex h)) in
     record { there = rw (← o, one_is x (omega arith)) f; small = omega arith }
 number_by s at x y z ex ey ez false p false q false r true t {v} {next} e =
     let i : at + 2 ≡ next = cc in
     let o : x * 10 + y ≡ v = cc in
-    let h = ltb_false 9 x p in
-    let k = ltb_false 9 y r in
+    let h = ltb-false 9 x p in
+    let k = ltb-false 9 y r in
     let m = eqb-false x 0 q in
     let j : at + 1 + 1 ≡ next = omega arith in
     let f = rw ex at (digit_there s at (rw ex h)) in
@@ -138,9 +138,9 @@ number_by s at x y z ex ey ez false p false q false r true t {v} {next} e =
 number_by s at x y z ex ey ez false p false q false r false t {v} {next} e =
     let i : at + 3 ≡ next = cc in
     let o : x * 100 + y * 10 + z ≡ v = cc in
-    let h = ltb_false 9 x p in
-    let k = ltb_false 9 y r in
-    let n = ltb_false 9 z t in
+    let h = ltb-false 9 x p in
+    let k = ltb-false 9 y r in
+    let n = ltb-false 9 z t in
     let m = eqb-false x 0 q in
     let j : at + 1 + 1 ≡ at + 2 = omega arith in
     let j2 : at + 2 + 1 ≡ next = omega arith in
@@ -214,7 +214,7 @@ part_read s at mark {v} {next} = by (decimal_at s at) refl
         let h = ltb-true n (length s) r in
         let m = eqb-true (get_or s n 0) mark t in
         let f : drop n s ≡ mark ∷ drop next s = drop-cons s n 0 h ∙ ap₂ (λ (a : ℕ) (l : List ℕ). a ∷ l) m (ap (λ (k : ℕ). drop k s) (sym (add-one n) ∙ y)) in
-        ((number_read s at p).there ∙ ap₂ (λ (a : ℕ) (l : List ℕ). decimal a ++ l) x f, omega (arith, ltb_false 255 w q))
+        ((number_read s at p).there ∙ ap₂ (λ (a : ℕ) (l : List ℕ). decimal a ++ l) x f, omega (arith, ltb-false 255 w q))
 
     by : (i : Decimal) → decimal_at s at ≡ i → part_by s mark i ≡ Got v next → (drop at s ≡ decimal v ++ (mark ∷ drop next s)) × (v ≤ 255)
     by No p e = let z : ◌≡◌ {A = ℕ} 0 1 = cc in let z : ⊥ = omega arith in elim z [ ]
@@ -232,7 +232,7 @@ size_read s at {v} {next} = by (decimal_at s at) refl
         let x : w ≡ v = cc in
         let m = eqb-true n (length s) r in
         let f : drop n s ≡ [] = ap (λ (k : ℕ). drop k s) m ∙ drop-length s in
-        ((number_read s at p).there ∙ ap₂ (λ (a : ℕ) (l : List ℕ). decimal a ++ l) x f ∙ append-nil (decimal v), omega (arith, ltb_false 32 w q))
+        ((number_read s at p).there ∙ ap₂ (λ (a : ℕ) (l : List ℕ). decimal a ++ l) x f ∙ append-nil (decimal v), omega (arith, ltb-false 32 w q))
 
     by : (i : Decimal) → decimal_at s at ≡ i → size_by s i ≡ Got v next → (drop at s ≡ decimal v) × (v ≤ 32)
     by No p e = let z : ◌≡◌ {A = ℕ} 0 1 = cc in let z : ⊥ = omega arith in elim z [ ]
