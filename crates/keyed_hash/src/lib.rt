@@ -101,6 +101,7 @@ fn refused() -> Hashed
 }
 
 // The keyed hash of head and body as one message.
+#[tactic(auto, using(crate::proofs::Hashing::bad_key, crate::proofs::Hashing::long_head, crate::proofs::Hashing::long_body))]
 pub fn keyed_hash_joined(key: &[u8], head: &[u8], body: &[u8]) -> Hashed
     ensures { result ≡ hashed_of key.now (head.now ++ body.now) }
 {
