@@ -4,8 +4,6 @@
 
 ghost use Rattle.std.specs.Prelude.{◌≡◌, length};
 
-use libc::STDOUT_FILENO;
-
 // The published lengths up to 8,192, and the first that is refused.
 const LENGTHS: [u16; 32] = [
     0, 1, 2, 3, 4, 5, 6, 7, 8, 63, 64, 65, 127, 128, 129, 1023, 1024, 1025, 2048, 2049, 3072, 3073,
@@ -35,7 +33,7 @@ fn low_digit(b: u8) -> u8 {
     HEX[(b % 16) as usize]
 }
 
-fn print_bytes(bytes: [u8; 32]) {
+fn print_bytes(rt: &impl Print, bytes: [u8; 32]) {
     let mut line = [b'\n'; 65];
     let mut i: usize = 0;
     while i < 32 {
@@ -43,29 +41,26 @@ fn print_bytes(bytes: [u8; 32]) {
         line[i * 2 + 1] = low_digit(bytes[i]);
         i += 1;
     }
-    io::write_all(STDOUT_FILENO, &line);
+    let _ = rt.write_all(&line);
 }
 
-fn print_vector(message: &[u8]) {
+fn print_vector(rt: &impl Print, message: &[u8]) {
     let r = keyed_hash::keyed_hash(b"whats the Elvish word for friend", message);
-    io::print_decimal(STDOUT_FILENO, message.len() as u64);
-    io::write_all(STDOUT_FILENO, b" ");
-    io::print_decimal(STDOUT_FILENO, r.answer as u64);
-    io::write_all(STDOUT_FILENO, b" ");
+    let _ = print!(rt; "{} {} ", message.len(), r.answer);
     let bytes = r.bytes;
-    print_bytes(bytes);
+    print_bytes(rt, bytes);
 }
 
 fn wide(n: u16) -> usize {
     n as usize
 }
 
-fn main() {
+fn main(rt: HostRuntime) {
     let m = input();
     let mut i: usize = 0;
     while i < 32 {
         let n = basis::least(wide(LENGTHS[i]), 8193);
-        print_vector(&m[..n]);
+        print_vector(&rt, &m[..n]);
         i += 1;
     }
 }

@@ -9,35 +9,35 @@
 #![tactic(auto)]
 
 use answers::Listed;
-use libc::STDOUT_FILENO;
 
-fn print_name(number: u32) {
+fn print_name(rt: &impl Print, number: u32) {
     match answers::answer_of(number) {
         Listed::Free => {
-            io::write_all(STDOUT_FILENO, b"?");
+            let _ = rt.write_all(b"?");
         }
         Listed::Of(answer) => {
             let mut room = [0u8; 32];
             let n = answers::name(answer, &mut room);
             let end = basis::least(n, 32);
-            io::write_all(STDOUT_FILENO, &room[..end]);
+            let _ = rt.write_all(&room[..end]);
         }
     }
 }
 
-fn show(label: &[u8], table: &[u8], request: &[u8], token: &[u8]) {
-    io::write_all(STDOUT_FILENO, label);
+fn show(rt: &impl Print, label: &[u8], table: &[u8], request: &[u8], token: &[u8]) {
+    let _ = rt.write_all(label);
     let number = bhinorpa::bhinorpa_verify(table, request, token);
     if number != 0 {
-        io::write_all(STDOUT_FILENO, b"deny ");
+        let _ = rt.write_all(b"deny ");
     }
-    print_name(number);
-    io::write_all(STDOUT_FILENO, b"\n");
+    print_name(rt, number);
+    let _ = rt.write_all(b"\n");
 }
 
 // Under a table of one row: its body's length and kind, then tid, kid and key.
-fn show_asked(label: &[u8], request: &[u8], token: &[u8]) {
+fn show_asked(rt: &impl Print, label: &[u8], request: &[u8], token: &[u8]) {
     show(
+        rt,
         label,
         b"\x35\0\x01\0\x08tenant-1\x0bkid-2025-10whats the Elvish word for friend",
         request,
@@ -47,8 +47,9 @@ fn show_asked(label: &[u8], request: &[u8], token: &[u8]) {
 
 // For GET on / at time 0, with skew 300. A request line by line: now; body size; skew and flags; the peer,
 // if flagged; method, path and tenant, each after its length.
-fn show_token(label: &[u8], token: &[u8]) {
+fn show_token(rt: &impl Print, label: &[u8], token: &[u8]) {
     show_asked(
+        rt,
         label,
         b"\0\0\0\0\0\0\0\0\
           \0\0\0\0\0\0\0\0\
@@ -59,8 +60,9 @@ fn show_token(label: &[u8], token: &[u8]) {
 }
 
 // A request for the token that expires at 1767225600.
-fn show_exp(label: &[u8], request: &[u8]) {
+fn show_exp(rt: &impl Print, label: &[u8], request: &[u8]) {
     show_asked(
+        rt,
         label,
         request,
         b"pmFjgaJhdGNleHBhdhppVbkAYXKhZ21ldGhvZHOBY0dFVGFzWCDF0rJK6U34-UPJoEDZfFDTiclDGB1eMAAu8RqsKH8deGF2AWNraWRra2lkLTIwMjUtMTBjdGlkaHRlbmFudC0x",
@@ -68,16 +70,18 @@ fn show_exp(label: &[u8], request: &[u8]) {
 }
 
 // A request for the token that expires at 2^64 - 1.
-fn show_last_exp(label: &[u8], request: &[u8]) {
+fn show_last_exp(rt: &impl Print, label: &[u8], request: &[u8]) {
     show_asked(
+        rt,
         label,
         request,
         b"pmFjgaJhdGNleHBhdhv__________2FyoWdtZXRob2RzgWNHRVRhc1ggJSPb04q_RW8J_vRcXOdgttDyo9koO6zLNsDfhJdpHBthdgFja2lka2tpZC0yMDI1LTEwY3RpZGh0ZW5hbnQtMQ",
     );
 }
 
-fn expiries() {
+fn expiries(rt: &impl Print) {
     show_exp(
+        rt,
         b"exp 1767225600, skew 300, at 1767225900: ",
         b"\x2c\xba\x55\x69\0\0\0\0\
           \0\0\0\0\0\0\0\0\
@@ -85,6 +89,7 @@ fn expiries() {
           \x03\0GET\x01\0/\x08\0tenant-1",
     );
     show_exp(
+        rt,
         b"exp 1767225600, skew 300, at 1767225901: ",
         b"\x2d\xba\x55\x69\0\0\0\0\
           \0\0\0\0\0\0\0\0\
@@ -92,6 +97,7 @@ fn expiries() {
           \x03\0GET\x01\0/\x08\0tenant-1",
     );
     show_last_exp(
+        rt,
         b"exp 2^64 - 1, skew 0, at 2^64 - 1: ",
         b"\xff\xff\xff\xff\xff\xff\xff\xff\
           \0\0\0\0\0\0\0\0\
@@ -99,6 +105,7 @@ fn expiries() {
           \x03\0GET\x01\0/\x08\0tenant-1",
     );
     show_last_exp(
+        rt,
         b"exp 2^64 - 1, skew 300, at 2^64 - 1: ",
         b"\xff\xff\xff\xff\xff\xff\xff\xff\
           \0\0\0\0\0\0\0\0\
@@ -108,16 +115,18 @@ fn expiries() {
 }
 
 // A request for the token whose caveat is ip_cidr 10.0.0.0/8.
-fn show_peer(label: &[u8], request: &[u8]) {
+fn show_peer(rt: &impl Print, label: &[u8], request: &[u8]) {
     show_asked(
+        rt,
         label,
         request,
         b"pmFjgaJhdGdpcF9jaWRyYXZqMTAuMC4wLjAvOGFyoWdtZXRob2RzgWNHRVRhc1gg1fw-FCLvb6wifpJIStdN202IA2wjWeaa8rufixq9Ov9hdgFja2lka2tpZC0yMDI1LTEwY3RpZGh0ZW5hbnQtMQ",
     );
 }
 
-fn addresses() {
+fn addresses(rt: &impl Print) {
     show_peer(
+        rt,
         b"ip_cidr 10.0.0.0/8, peer 10.255.255.255: ",
         b"\0\0\0\0\0\0\0\0\
           \0\0\0\0\0\0\0\0\
@@ -126,6 +135,7 @@ fn addresses() {
           \x03\0GET\x01\0/\x08\0tenant-1",
     );
     show_peer(
+        rt,
         b"ip_cidr 10.0.0.0/8, peer 11.0.0.0: ",
         b"\0\0\0\0\0\0\0\0\
           \0\0\0\0\0\0\0\0\
@@ -134,6 +144,7 @@ fn addresses() {
           \x03\0GET\x01\0/\x08\0tenant-1",
     );
     show_peer(
+        rt,
         b"ip_cidr 10.0.0.0/8, peer 9.255.255.255: ",
         b"\0\0\0\0\0\0\0\0\
           \0\0\0\0\0\0\0\0\
@@ -142,6 +153,7 @@ fn addresses() {
           \x03\0GET\x01\0/\x08\0tenant-1",
     );
     show_peer(
+        rt,
         b"ip_cidr 10.0.0.0/8, no peer: ",
         b"\0\0\0\0\0\0\0\0\
           \0\0\0\0\0\0\0\0\
@@ -149,14 +161,16 @@ fn addresses() {
           \x03\0GET\x01\0/\x08\0tenant-1",
     );
     show_token(
+        rt,
         b"ip_cidr 10.0.0.1/8: ",
         b"pmFjgaJhdGdpcF9jaWRyYXZqMTAuMC4wLjEvOGFyoWdtZXRob2RzgWNHRVRhc1ggfS5kyOlf2LXP5ihOAcLu4pXZFf7DHxIuQx8cgi6f_JxhdgFja2lka2tpZC0yMDI1LTEwY3RpZGh0ZW5hbnQtMQ",
     );
 }
 
 // A request for /o/b3:abcd/some.
-fn show_under(label: &[u8], token: &[u8]) {
+fn show_under(rt: &impl Print, label: &[u8], token: &[u8]) {
     show_asked(
+        rt,
         label,
         b"\0\0\0\0\0\0\0\0\
           \0\0\0\0\0\0\0\0\
@@ -167,8 +181,9 @@ fn show_under(label: &[u8], token: &[u8]) {
 }
 
 // A request for /o/b3:abc.
-fn show_beside(label: &[u8], token: &[u8]) {
+fn show_beside(rt: &impl Print, label: &[u8], token: &[u8]) {
     show_asked(
+        rt,
         label,
         b"\0\0\0\0\0\0\0\0\
           \0\0\0\0\0\0\0\0\
@@ -178,29 +193,39 @@ fn show_beside(label: &[u8], token: &[u8]) {
     );
 }
 
-fn prefixes() {
+fn prefixes(rt: &impl Print) {
     let scope =
         b"pmFjgGFyomZwcmVmaXhqL28vYjM6YWJjZGdtZXRob2RzgWNHRVRhc1ggXSWz1DStvLN4PhmvDAiV9BD9P9WgYQuZeiqBjCt8NHRhdgFja2lka2tpZC0yMDI1LTEwY3RpZGh0ZW5hbnQtMQ";
-    show_under(b"scope prefix /o/b3:abcd, path /o/b3:abcd/some: ", scope);
-    show_beside(b"scope prefix /o/b3:abcd, path /o/b3:abc: ", scope);
+    show_under(
+        rt,
+        b"scope prefix /o/b3:abcd, path /o/b3:abcd/some: ",
+        scope,
+    );
+    show_beside(rt, b"scope prefix /o/b3:abcd, path /o/b3:abc: ", scope);
     let caveat =
         b"pmFjgaJhdGtwYXRoX3ByZWZpeGF2ai9vL2IzOmFiY2RhcqFnbWV0aG9kc4FjR0VUYXNYIBG7wngNTNmJXtEA-o_5LWpc1Ai_ALmlpVy6xdb_GE7rYXYBY2tpZGtraWQtMjAyNS0xMGN0aWRodGVuYW50LTE";
-    show_under(b"path_prefix /o/b3:abcd, path /o/b3:abcd/some: ", caveat);
-    show_beside(b"path_prefix /o/b3:abcd, path /o/b3:abc: ", caveat);
+    show_under(
+        rt,
+        b"path_prefix /o/b3:abcd, path /o/b3:abcd/some: ",
+        caveat,
+    );
+    show_beside(rt, b"path_prefix /o/b3:abcd, path /o/b3:abc: ", caveat);
 }
 
 // A path beside the prefix /relay/1, in the scope and then in a caveat.
-fn show_relay(path: &[u8], request: &[u8]) {
-    io::write_all(STDOUT_FILENO, b"scope prefix /relay/1, path ");
-    io::write_all(STDOUT_FILENO, path);
+fn show_relay(rt: &impl Print, path: &[u8], request: &[u8]) {
+    let _ = rt.write_all(b"scope prefix /relay/1, path ");
+    let _ = rt.write_all(path);
     show_asked(
+        rt,
         b": ",
         request,
         b"pmFjgGFyomZwcmVmaXhoL3JlbGF5LzFnbWV0aG9kc4FjR0VUYXNYIHUAe2Pan7EazGGI9e2FJLnOXnC4DkPTd1r8EvkmCcG3YXYBY2tpZGtraWQtMjAyNS0xMGN0aWRodGVuYW50LTE",
     );
-    io::write_all(STDOUT_FILENO, b"path_prefix /relay/1, path ");
-    io::write_all(STDOUT_FILENO, path);
+    let _ = rt.write_all(b"path_prefix /relay/1, path ");
+    let _ = rt.write_all(path);
     show_asked(
+        rt,
         b": ",
         request,
         b"pmFjgaJhdGtwYXRoX3ByZWZpeGF2aC9yZWxheS8xYXKhZ21ldGhvZHOBY0dFVGFzWCAsHbBsMTFTTCkhG40w42XAH-N9F5I7_rftVBwqp0ueVGF2AWNraWRra2lkLTIwMjUtMTBjdGlkaHRlbmFudC0x",
@@ -208,8 +233,9 @@ fn show_relay(path: &[u8], request: &[u8]) {
 }
 
 // Document 02's cases (M-100), and a next byte that is neither of these.
-fn relays() {
+fn relays(rt: &impl Print) {
     show_relay(
+        rt,
         b"/relay/1",
         b"\0\0\0\0\0\0\0\0\
           \0\0\0\0\0\0\0\0\
@@ -217,6 +243,7 @@ fn relays() {
           \x03\0GET\x08\0/relay/1\x08\0tenant-1",
     );
     show_relay(
+        rt,
         b"/relay/1/count",
         b"\0\0\0\0\0\0\0\0\
           \0\0\0\0\0\0\0\0\
@@ -224,6 +251,7 @@ fn relays() {
           \x03\0GET\x0e\0/relay/1/count\x08\0tenant-1",
     );
     show_relay(
+        rt,
         b"/relay/12",
         b"\0\0\0\0\0\0\0\0\
           \0\0\0\0\0\0\0\0\
@@ -231,6 +259,7 @@ fn relays() {
           \x03\0GET\x09\0/relay/12\x08\0tenant-1",
     );
     show_relay(
+        rt,
         b"/relay/1?n=2",
         b"\0\0\0\0\0\0\0\0\
           \0\0\0\0\0\0\0\0\
@@ -238,6 +267,7 @@ fn relays() {
           \x03\0GET\x0c\0/relay/1?n=2\x08\0tenant-1",
     );
     show_relay(
+        rt,
         b"/relay/1#n",
         b"\0\0\0\0\0\0\0\0\
           \0\0\0\0\0\0\0\0\
@@ -247,8 +277,9 @@ fn relays() {
 }
 
 // A prefix that ends in "/".
-fn slashes() {
+fn slashes(rt: &impl Print) {
     show_asked(
+        rt,
         b"scope prefix /relay/1/, path /relay/1: ",
         b"\0\0\0\0\0\0\0\0\
           \0\0\0\0\0\0\0\0\
@@ -257,6 +288,7 @@ fn slashes() {
         b"pmFjgGFyomZwcmVmaXhpL3JlbGF5LzEvZ21ldGhvZHOBY0dFVGFzWCA61mVTWqMRJclOpndsh1_QewHS4C6weHFmH4uCsc8ANWF2AWNraWRra2lkLTIwMjUtMTBjdGlkaHRlbmFudC0x",
     );
     show_asked(
+        rt,
         b"scope prefix /relay/1/, path /relay/1/count: ",
         b"\0\0\0\0\0\0\0\0\
           \0\0\0\0\0\0\0\0\
@@ -265,6 +297,7 @@ fn slashes() {
         b"pmFjgGFyomZwcmVmaXhpL3JlbGF5LzEvZ21ldGhvZHOBY0dFVGFzWCA61mVTWqMRJclOpndsh1_QewHS4C6weHFmH4uCsc8ANWF2AWNraWRra2lkLTIwMjUtMTBjdGlkaHRlbmFudC0x",
     );
     show_asked(
+        rt,
         b"scope prefix /, path /relay/12: ",
         b"\0\0\0\0\0\0\0\0\
           \0\0\0\0\0\0\0\0\
@@ -276,24 +309,26 @@ fn slashes() {
 
 // What proxies rewrite (document 02, M-106), of each kind one: in a request; and in old tokens, which were readable
 // before and whose tags are right.
-fn show_rewritten(path: &[u8], request: &[u8], scope: &[u8], caveat: &[u8]) {
-    io::write_all(STDOUT_FILENO, b"path ");
-    io::write_all(STDOUT_FILENO, path);
+fn show_rewritten(rt: &impl Print, path: &[u8], request: &[u8], scope: &[u8], caveat: &[u8]) {
+    let _ = rt.write_all(b"path ");
+    let _ = rt.write_all(path);
     show_asked(
+        rt,
         b": ",
         request,
         b"pmFjgGFyoWdtZXRob2RzgWNHRVRhc1gg1LkAvHZ-TOaDZFIaxXS1MQrPO4ELXxUPIjBJn-qTvYdhdgFja2lka2tpZC0yMDI1LTEwY3RpZGh0ZW5hbnQtMQ",
     );
-    io::write_all(STDOUT_FILENO, b"scope prefix ");
-    io::write_all(STDOUT_FILENO, path);
-    show_token(b": ", scope);
-    io::write_all(STDOUT_FILENO, b"path_prefix ");
-    io::write_all(STDOUT_FILENO, path);
-    show_token(b": ", caveat);
+    let _ = rt.write_all(b"scope prefix ");
+    let _ = rt.write_all(path);
+    show_token(rt, b": ", scope);
+    let _ = rt.write_all(b"path_prefix ");
+    let _ = rt.write_all(path);
+    show_token(rt, b": ", caveat);
 }
 
-fn rewritten() {
+fn rewritten(rt: &impl Print) {
     show_rewritten(
+        rt,
         b"/relay/%31",
         b"\0\0\0\0\0\0\0\0\
           \0\0\0\0\0\0\0\0\
@@ -303,6 +338,7 @@ fn rewritten() {
         b"pmFjgaJhdGtwYXRoX3ByZWZpeGF2ai9yZWxheS8lMzFhcqFnbWV0aG9kc4FjR0VUYXNYIAmjsT5_6vMn5Aq_W70KJB1H0iaPLR3tYi8hTtPd7mt9YXYBY2tpZGtraWQtMjAyNS0xMGN0aWRodGVuYW50LTE",
     );
     show_rewritten(
+        rt,
         b"/relay//1",
         b"\0\0\0\0\0\0\0\0\
           \0\0\0\0\0\0\0\0\
@@ -312,6 +348,7 @@ fn rewritten() {
         b"pmFjgaJhdGtwYXRoX3ByZWZpeGF2aS9yZWxheS8vMWFyoWdtZXRob2RzgWNHRVRhc1gg2rgcKBR9mhmduXq1gIyVREjGLNWxq_nDcLeOf3Mq2PVhdgFja2lka2tpZC0yMDI1LTEwY3RpZGh0ZW5hbnQtMQ",
     );
     show_rewritten(
+        rt,
         b"/relay/./1",
         b"\0\0\0\0\0\0\0\0\
           \0\0\0\0\0\0\0\0\
@@ -321,6 +358,7 @@ fn rewritten() {
         b"pmFjgaJhdGtwYXRoX3ByZWZpeGF2ai9yZWxheS8uLzFhcqFnbWV0aG9kc4FjR0VUYXNYIFykPg56YWOixHmRarWZRvw1YnXUrLZQzGhtuymtL7S3YXYBY2tpZGtraWQtMjAyNS0xMGN0aWRodGVuYW50LTE",
     );
     show_rewritten(
+        rt,
         b"/relay/1/..",
         b"\0\0\0\0\0\0\0\0\
           \0\0\0\0\0\0\0\0\
@@ -332,8 +370,9 @@ fn rewritten() {
 }
 
 // Dots that are no segment of their own.
-fn dotted() {
+fn dotted(rt: &impl Print) {
     show_asked(
+        rt,
         b"scope prefix /relay/.1, path /relay/.1: ",
         b"\0\0\0\0\0\0\0\0\
           \0\0\0\0\0\0\0\0\
@@ -342,6 +381,7 @@ fn dotted() {
         b"pmFjgGFyomZwcmVmaXhpL3JlbGF5Ly4xZ21ldGhvZHOBY0dFVGFzWCCcDGKH6OL0tjY1-j4AOcF_HI4XRkwavHjTKHaUaB0-i2F2AWNraWRra2lkLTIwMjUtMTBjdGlkaHRlbmFudC0x",
     );
     show_asked(
+        rt,
         b"scope prefix /relay/.../1, path /relay/.../1: ",
         b"\0\0\0\0\0\0\0\0\
           \0\0\0\0\0\0\0\0\
@@ -351,20 +391,23 @@ fn dotted() {
     );
 }
 
-fn methods() {
+fn methods(rt: &impl Print) {
     show_token(
+        rt,
         b"no methods in the scope: ",
         b"pmFjgGFyoWdtZXRob2RzgGFzWCCjtE8O4CO3A5fXAtcbo9MWqmuG0IekxlgVeaEMXrnzl2F2AWNraWRra2lkLTIwMjUtMTBjdGlkaHRlbmFudC0x",
     );
     show_token(
+        rt,
         b"no methods in a method caveat: ",
         b"pmFjgaJhdGZtZXRob2RhdoBhcqFnbWV0aG9kc4FjR0VUYXNYICoMF_URhs2cXRFMKkbjaPR_6fDWXP9Zi7iUeHuzI0YIYXYBY2tpZGtraWQtMjAyNS0xMGN0aWRodGVuYW50LTE",
     );
 }
 
 // Its scope, its three caveats and its request, with a body as long as max_bytes allows and no skew.
-fn sample() {
+fn sample(rt: &impl Print) {
     show_asked(
+        rt,
         b"the sample of document 004, section 5.2: ",
         b"\xff\xb8\x55\x69\0\0\0\0\
           \0\0\x10\0\0\0\0\0\
@@ -374,22 +417,25 @@ fn sample() {
     );
 }
 
-fn keys_and_tags() {
+fn keys_and_tags(rt: &impl Print) {
     show_token(
+        rt,
         b"a key id that is not in the table: ",
         b"pmFjgGFyoWdtZXRob2RzgWNHRVRhc1gg4MhjIW5hQLWjU8A6027pb2VW2FihxQM09zC15LTVwbZhdgFja2lka2tpZC0yMDI1LTExY3RpZGh0ZW5hbnQtMQ",
     );
     show_token(
+        rt,
         b"one bit of the tag changed: ",
         b"pmFjgGFyoWdtZXRob2RzgWNHRVRhc1gg1LkAvHZ-TOaDZFIaxXS1MQrPO4ELXxUPIjBJn-qTvYZhdgFja2lka2tpZC0yMDI1LTEwY3RpZGh0ZW5hbnQtMQ",
     );
 }
 
 // A good token, allowed where nothing else is wrong.
-fn surroundings() {
+fn surroundings(rt: &impl Print) {
     let good =
         b"pmFjgGFyoWdtZXRob2RzgWNHRVRhc1gg1LkAvHZ-TOaDZFIaxXS1MQrPO4ELXxUPIjBJn-qTvYdhdgFja2lka2tpZC0yMDI1LTEwY3RpZGh0ZW5hbnQtMQ";
     show_asked(
+        rt,
         b"a request of another tenant: ",
         b"\0\0\0\0\0\0\0\0\
           \0\0\0\0\0\0\0\0\
@@ -398,6 +444,7 @@ fn surroundings() {
         good,
     );
     show(
+        rt,
         b"a table cut by one byte: ",
         b"\x35\0\x01\0\x08tenant-1\x0bkid-2025-10whats the Elvish word for frien",
         b"\0\0\0\0\0\0\0\0\
@@ -406,27 +453,27 @@ fn surroundings() {
           \x03\0GET\x01\0/\x08\0tenant-1",
         good,
     );
-    show_asked(b"an empty request: ", b"", good);
+    show_asked(rt, b"an empty request: ", b"", good);
 }
 
-fn texts() {
-    show_token(b"the empty text: ", b"");
+fn texts(rt: &impl Print) {
+    show_token(rt, b"the empty text: ", b"");
     let long = [b'='; 5463];
-    show_token(b"text of 5,463 characters: ", &long);
-    show_token(b"\"_x\": ", b"_x");
+    show_token(rt, b"text of 5,463 characters: ", &long);
+    show_token(rt, b"\"_x\": ", b"_x");
 }
 
-fn main() {
-    expiries();
-    addresses();
-    prefixes();
-    relays();
-    slashes();
-    rewritten();
-    dotted();
-    methods();
-    sample();
-    keys_and_tags();
-    surroundings();
-    texts();
+fn main(rt: HostRuntime) {
+    expiries(&rt);
+    addresses(&rt);
+    prefixes(&rt);
+    relays(&rt);
+    slashes(&rt);
+    rewritten(&rt);
+    dotted(&rt);
+    methods(&rt);
+    sample(&rt);
+    keys_and_tags(&rt);
+    surroundings(&rt);
+    texts(&rt);
 }

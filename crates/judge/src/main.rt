@@ -8,7 +8,7 @@ ghost use Rattle.judge.specs.Reading.{Brought, Came};
 ghost use Rattle.judge.specs.Lined.{Lined};
 
 use basis::limits;
-use libc::{STDERR_FILENO, STDIN_FILENO, STDOUT_FILENO};
+use std::io::Read;
 
 // What one read came to.
 #[derive(Clone, Copy)]
@@ -26,14 +26,12 @@ enum Input {
 }
 
 // One read, to the front of a room that is not empty.
-fn read_some(fd: i32, room: &mut [u8]) -> Turn
+fn read_some(input: &mut impl Read, room: &mut [u8]) -> Turn
     ensures { Brought result (length room.new) }
 {
-    let got = libc::read(fd, room);
-    if got < 0 {
+    let Ok(k) = input.read(room) else {
         return Turn::Failed;
-    }
-    let k = io::count(got, room);
+    };
     if k == 0 {
         return Turn::End;
     }
@@ -41,12 +39,12 @@ fn read_some(fd: i32, room: &mut [u8]) -> Turn
 }
 
 // Reads until the input ends, a read fails or the room is full.
-fn read_input(fd: i32, room: &mut [u8]) -> Input
+fn read_input(input: &mut impl Read, room: &mut [u8]) -> Input
     ensures { Came result (length room.new) }
 {
     let mut n: usize = 0;
     while n < room.len() {
-        match read_some(fd, &mut room[n..]) {
+        match read_some(input, &mut room[n..]) {
             Turn::More(k) => n += k,
             Turn::End => return Input::Whole(n),
             Turn::Failed => return Input::Failed,
@@ -56,12 +54,9 @@ fn read_input(fd: i32, room: &mut [u8]) -> Input
 }
 
 // Writes the text to standard output, or says that it could not.
-fn write_lines(text: &[u8]) {
-    if !io::write_all(STDOUT_FILENO, text) {
-        io::write_all(
-            STDERR_FILENO,
-            b"judge: standard output could not be written\n",
-        );
+fn write_lines(rt: &(impl Print + Eprint), text: &[u8]) {
+    if rt.write_all(text).is_err() {
+        let _ = rt.eprintln("judge: standard output could not be written");
     }
 }
 
@@ -72,19 +67,19 @@ fn lines_of(input: &[u8], room: &mut [u8; bundle::ENOUGH]) -> usize
     bundle::judge_bundle(input, room)
 }
 
-fn judge_input(input: &[u8]) {
+fn judge_input(rt: &(impl Print + Eprint), input: &[u8]) {
     let mut lines = [0u8; bundle::ENOUGH];
     let n = lines_of(input, &mut lines);
-    write_lines(&lines[..n]);
+    write_lines(rt, &lines[..n]);
 }
 
-fn main() {
+fn main(rt: HostRuntime) {
     let mut input = [0u8; limits::BUNDLE_MOST + 1];
-    match read_input(STDIN_FILENO, &mut input) {
-        Input::Whole(n) => judge_input(&input[..n]),
+    match read_input(&mut rt.stdin(), &mut input) {
+        Input::Whole(n) => judge_input(&rt, &input[..n]),
         Input::Failed => {
-            io::write_all(STDERR_FILENO, b"judge: standard input could not be read\n");
-            write_lines(b"bundle.bad\n");
+            let _ = rt.eprintln("judge: standard input could not be read");
+            write_lines(&rt, b"bundle.bad\n");
         }
     }
 }
