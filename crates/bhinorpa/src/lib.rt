@@ -11,16 +11,14 @@ ghost use Rattle.narrow.specs.Narrowing.{narrow_of};
 use outcome::Outcome;
 
 // Whether a token is allowed: 0, or the number of the first check that fails.
-#[unsafe(no_mangle)]
-pub extern "C" fn bhinorpa_verify(table: &[u8], request: &[u8], token: &[u8]) -> u32
+pub fn bhinorpa_verify(table: &[u8], request: &[u8], token: &[u8]) -> u32
     ensures { result ≡ verify_of table.now request.now token.now }
 {
     verify::verify(table, request, token)
 }
 
 // Writes the text of a fresh token, without caveats, into the room.
-#[unsafe(no_mangle)]
-pub extern "C" fn bhinorpa_issue(
+pub fn bhinorpa_issue(
     table: &[u8],
     tid: &[u8],
     kid: &[u8],
@@ -33,13 +31,7 @@ pub extern "C" fn bhinorpa_issue(
 }
 
 // Writes the text of a token with one caveat more into the room.
-#[unsafe(no_mangle)]
-pub extern "C" fn bhinorpa_narrow(
-    table: &[u8],
-    token: &[u8],
-    caveat: &[u8],
-    room: &mut [u8],
-) -> Outcome
+pub fn bhinorpa_narrow(table: &[u8], token: &[u8], caveat: &[u8], room: &mut [u8]) -> Outcome
     ensures { Carried (narrow_of table.now token.now caveat.now) room.old result room.new }
 {
     narrow::narrow(table, token, caveat, room)
