@@ -1,4 +1,4 @@
-//! Links the proved archives that `rt staticlib` writes to target/staticlib.
+//! Links the proved archives that tools/archives writes to target/staticlib.
 
 use std::path::Path;
 

@@ -1,4 +1,4 @@
-//! Links the archives for the tests that `rt staticlib` writes to target/staticlib.
+//! Links the archives for the tests that tools/archives writes to target/staticlib.
 
 use std::path::Path;
 

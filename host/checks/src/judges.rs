@@ -45,7 +45,7 @@ impl Judge {
         let root = Path::new(env!("CARGO_MANIFEST_DIR")).ancestors().nth(2).expect("the repository's root");
         let program = std::env::var_os(OTHER).map_or(root.join(PROVED), PathBuf::from);
         if !program.is_file() {
-            panic!("there is no program {}: `rt check judge` makes it, or {OTHER} names another", program.display());
+            panic!("there is no program {}: tools/judge makes it, or {OTHER} names another", program.display());
         }
         let kept = root.join("host/target/bundles");
         std::fs::create_dir_all(&kept).expect("host/target can be written");

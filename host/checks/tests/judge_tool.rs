@@ -2,11 +2,12 @@
 //! that it makes of them. Each case is a line of shell, as a person would type it.
 
 use std::fs;
-use std::path::{Path, PathBuf};
+use std::path::Path;
 use std::process::{Command, Output, Stdio};
 
 use checks::bundles::{Bundle, REQUEST, TABLE, TOKEN};
 use checks::samples;
+use tempfile::TempDir;
 
 const UNREAD: &str = "judge: standard input could not be read";
 const UNWRITTEN: &str = "judge: standard output could not be written";
@@ -28,11 +29,11 @@ fn root() -> &'static Path {
     Path::new(env!("CARGO_MANIFEST_DIR")).ancestors().nth(2).expect("the repository's root")
 }
 
-/// A folder with bundles by name, in which the lines are run: all allowed, one denied, none, and bad ones.
-fn folder() -> PathBuf {
-    let folder = root().join("host/target/judge-tool");
-    let _ = fs::remove_dir_all(&folder);
-    fs::create_dir_all(folder.join("folder")).expect("host/target can be written");
+/// A folder with bundles by name, in which the lines are run: all allowed, one denied, none, and bad ones. It stands
+/// outside the repository, in which rt ci takes no links.
+fn folder() -> TempDir {
+    let folder = tempfile::tempdir().expect("a folder");
+    fs::create_dir(folder.path().join("folder")).expect("a folder of the folder");
     let good = samples::of_caveats(3).laid();
     let front = vec![(TABLE, good.table), (REQUEST, good.request)];
     let with = |texts: &[&[u8]]| {
@@ -50,7 +51,7 @@ fn folder() -> PathBuf {
         ("allowed", allowed),
     ];
     for (name, bytes) in files {
-        fs::write(folder.join(name), bytes).expect("a file of the folder");
+        fs::write(folder.path().join(name), bytes).expect("a file of the folder");
     }
     folder
 }
@@ -58,7 +59,7 @@ fn folder() -> PathBuf {
 /// Where the program is missing this says so, instead of proving it all first.
 fn run(shell: &str, folder: &Path) -> Output {
     let program = root().join("target/bin/judge");
-    assert!(program.is_file(), "there is no program {}: `rt check judge` makes it", program.display());
+    assert!(program.is_file(), "there is no program {}: tools/judge makes it", program.display());
     let mut command = Command::new("bash");
     command.args(["-c", shell]).env("J", root().join("tools/judge")).current_dir(folder);
     command.stdin(Stdio::null()).output().expect("bash starts")
@@ -141,7 +142,7 @@ fn failing() -> Vec<Case> {
 #[test]
 fn lines_messages_and_statuses() {
     let folder = folder();
-    held(judged().into_iter().chain(refused()).chain(failing()), &folder);
+    held(judged().into_iter().chain(refused()).chain(failing()), folder.path());
 }
 
 #[test]

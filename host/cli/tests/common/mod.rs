@@ -1,12 +1,15 @@
-//! A folder of a test's own, in which the tool is called as a shell calls it.
+//! A folder of a test's own, in which the tool is called as a shell calls it. It stands outside the repository, in
+//! which rt ci takes no links.
 
 #![allow(dead_code)] // each test file uses a part of it
 
 use std::collections::BTreeMap;
 use std::io::Write;
-use std::path::{Path, PathBuf};
+use std::path::PathBuf;
 use std::process::{Command, Stdio};
 use std::{env, fs};
+
+use tempfile::TempDir;
 
 /// What tools/host-env sets where x86-64 programs are run through an emulator.
 const RUNNER: &str = "CARGO_TARGET_X86_64_UNKNOWN_LINUX_GNU_RUNNER";
@@ -18,14 +21,12 @@ pub const DIGEST: &str = "9f86d081884c7d659a2feaa0c55ad015a3bf4f1b2b0b822cd15d6c
 /// Status, standard output and standard error.
 pub type Said = (i32, String, String);
 
-pub struct Folder(pub PathBuf);
+pub struct Folder(pub PathBuf, TempDir);
 
 impl Folder {
     pub fn new(test: &str) -> Folder {
-        let folder = Path::new(env!("CARGO_TARGET_TMPDIR")).join(test);
-        let _ = fs::remove_dir_all(&folder);
-        fs::create_dir_all(&folder).unwrap();
-        Folder(folder)
+        let folder = tempfile::Builder::new().prefix(&format!("bhinorpa-{test}-")).tempdir().unwrap();
+        Folder(folder.path().to_owned(), folder)
     }
 
     /// With a table of two tenants in `keys`.
