@@ -62,9 +62,9 @@ module _ {A : Type 0} {bad : A → ℕ → A} {add : A → List ℕ → CaveatAt
     lent : part ≡ drop p s
     lent = take_all (length s - p) (drop p s) (simp length-drop (omega arith))
 
-    pub walk_bad : {kind a : ℕ} → caveat_of part ≡ Bad kind a → bad found kind ≡ all
+    pub walk_bad_lem : {kind a : ℕ} → caveat_of part ≡ Bad kind a → bad found kind ≡ all
     unfolding over_caveats after_caveat
-    walk_bad c = rw (sym (ap caveat_of lent) ∙ c) at one_left
+    walk_bad_lem c = rw (sym (ap caveat_of lent) ∙ c) at one_left
 
     module _ {caveat : CaveatAt} {next : ℕ} (c : caveat_of part ≡ Of caveat next) where
       pub walk_on : p + next ≤ length s
