@@ -115,9 +115,11 @@ fn standard_output_that_takes_nothing() {
     unwritten("exec \"$@\"", full(), "a full device");
     let read = File::open("/dev/null").expect("a device");
     unwritten("exec \"$@\"", read.into(), "a descriptor that is for reading");
-    // Where the signal for it is not ignored, it ends the process: nobody reads, and nothing is said.
-    let (near, _) = UnixStream::pair().expect("two ends");
-    unwritten("trap '' PIPE; exec \"$@\"", OwnedFd::from(near).into(), "a stream that nobody reads");
+    // The program's start ignores the signal for it, as whoever starts the program may.
+    for shell in ["exec \"$@\"", "trap '' PIPE; exec \"$@\""] {
+        let (near, _) = UnixStream::pair().expect("two ends");
+        unwritten(shell, OwnedFd::from(near).into(), "a stream that nobody reads");
+    }
 }
 
 #[test]
