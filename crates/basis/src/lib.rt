@@ -34,7 +34,9 @@ pub fn copy(from: &[u8], to: &mut [u8]) -> usize
     ensures content { to.new ≡ take result from.now ++ drop result to.old }
 {
     let n = least(from.len(), to.len());
-    to[..n].copy_from_slice(&from[..n]);
+    for i in 0..n {
+        to[i] = from[i];
+    }
     n
 }
 

@@ -16,7 +16,7 @@ pub unasked : (token : List ℕ) → verify_of [] [] token ≡ 2
 unfolding verify_of request_judged table_ok ok_from request_of fixed_at little_at run_at
 unasked token = refl
 
-pub bundle-example :
+pub bundle_example :
     lines_of (0x00 ∷ 0x00 ∷ 0x30 ∷ 0x00 ∷ 0x00 ∷ 0x00 ∷ 0x10 ∷ 0x00 ∷ 0x05 ∷ []) ≡ ascii "deny ctx.bad" ++ (0x0a ∷ ascii "bundle.bad" ++ (0x0a ∷ []))
 unfolding answer_of line_words line kind_then lines_from lines_of little_of run_at little_at record_kind record_then read_record verify_of request_judged table_ok ok_from request_of fixed_at
-bundle-example = refl
+bundle_example = refl

@@ -9,7 +9,7 @@ use Rattle.cbor_strings.specs.declared.Class.TheVariants.{Path}
 
 -- the root, an empty last segment, and segments that only begin with dots, also before a "?"; then the segments "." and "..", "//" and "%" anywhere,
 -- also behind a "?", and what does not begin with "/"
-pub clean-cases :
+pub clean_cases :
     (content_of Path (ascii "/") ≡ true)
     × (content_of Path (ascii "/a/") ≡ true)
     × (content_of Path (ascii "/.a") ≡ true)
@@ -28,4 +28,4 @@ pub clean-cases :
     × (content_of Path (ascii "") ≡ false)
     × (content_of Path (ascii "a") ≡ false)
 unfolding same_of starts has up_to segments among is_rewritten is_printable all_of content_of
-clean-cases = (refl, refl, refl, refl, refl, refl, refl, refl, refl, refl, refl, refl, refl, refl, refl, refl, refl)
+clean_cases = (refl, refl, refl, refl, refl, refl, refl, refl, refl, refl, refl, refl, refl, refl, refl, refl, refl)

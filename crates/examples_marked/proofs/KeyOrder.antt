@@ -16,11 +16,11 @@ in_order [] = true
 in_order (a ∷ []) = true
 in_order (a ∷ b ∷ rest) = pick (before_of (text (ascii a)) (text (ascii b))) (in_order (b ∷ rest)) false
 
-pub keys-in-order :
+pub keys_in_order :
     (in_order (keys_of Token) ≡ true)
     × (in_order (keys_of Scope) ≡ true)
     × (in_order (keys_of Caveat) ≡ true)
     × (in_order (keys_of Rate) ≡ true)
     × (in_order (keys_of Custom) ≡ true)
 unfolding keys_of before_of big head
-keys-in-order = (refl, refl, refl, refl, refl)
+keys_in_order = (refl, refl, refl, refl, refl)
