@@ -1,14 +1,19 @@
 -- One answer: what a promise leaves open, which is nothing. `told` serves every promise of the form r ≡ definition.
 use mathlib.Core.Path.{◌≡◌, sym, ◌∙◌}
 use mathlib.Core.Bool.{Bool}
-use mathlib.Core.List.{List}
-use Prim.Native.Nat.{ℕ}
+use mathlib.Core.List.{List, ◌++◌}
+use Prim.Native.Nat.{ℕ, min}
+use lib.ListN.{length, take, drop}
 use Rattle.basis.specs.declared.Span.{Span}
 use Rattle.basis.specs.Basis.{between, behind, part_place, Written}
 use Rattle.basis.specs.Same.{same_of}
 
 pub told : {A : Type 0} {x r s : A} → r ≡ x → s ≡ x → r ≡ s
 told p q = p ∙ sym q
+
+pub copy_one_answer : (from to : List ℕ) {r s : ℕ} {x y : List ℕ} → (r ≡ min (length from) (length to)) × (x ≡ take r from ++ drop r to)
+    → (s ≡ min (length from) (length to)) × (y ≡ take s from ++ drop s to) → (r ≡ s) × (x ≡ y)
+copy_one_answer from to p q = let e = told p.0 q.0 in (e, p.1 ∙ sym (rw e q.1))
 
 pub put_one_answer : (text entry : List ℕ) {r s : ℕ} {x y : List ℕ} → Written text entry r x → Written text entry s y
     → (r ≡ s) × (x ≡ y)

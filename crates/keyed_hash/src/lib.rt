@@ -128,7 +128,7 @@ pub fn keyed_hash(key: &[u8], message: &[u8]) -> Hashed
     keyed_hash_joined(key, &message[..0], message)
 }
 
-// For C: include/bhinorpa.h has its declaration.
+// Under the name that C calls it by; keyed_hash_c exports it.
 pub fn bhinorpa_keyed_hash(key: &[u8], message: &[u8]) -> Hashed
     ensures { result ≡ hashed_of key.now message.now }
 {
