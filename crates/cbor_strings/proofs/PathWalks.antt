@@ -60,6 +60,8 @@ module _ (seen c : ℕ) where
     unfolding next_seen is_outside is_printable
     other_dot f g = rw (e, ne_eqb seen 1 f, ne_eqb seen 2 g)
 
+pub ruleset one_byte = (letter, past_printable, below_printable, is_percent, is_other, opens, slash_refused, first_dot, second_dot, other_dot)
+
 -- what is refused stays so
 pub seen_refused : (t : List ℕ) → seen_by 4 t ≡ 4
 unfolding seen_by

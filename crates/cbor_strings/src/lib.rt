@@ -186,6 +186,7 @@ fn far(before: &[u8], s: &[u8]) -> bool
 }
 
 // What is seen of the open segment of a path behind one more byte. Letters are asked for first: they are most.
+#[tactic(auto, using(crate::proofs::PathWalks::one_byte))]
 fn next_seen(seen: u8, c: u8) -> u8
     ensures { result ≡ next_seen seen c }
 {
@@ -240,6 +241,7 @@ fn walk(s: &[u8], seen: u8) -> u8
 
 // Whether a path's content is good. One where nothing is near is read many bytes at a time: whole stretches of
 // sixteen from the front and, since they may leave some, the last sixteen. Any other, and a short one, is walked.
+#[tactic(auto, using(crate::proofs::PathJudged::no_path, crate::proofs::PathJudged::no_slash, crate::proofs::PathJudged::far_stands, crate::proofs::PathJudged::walk_stands))]
 fn path_is(s: &[u8]) -> bool
     ensures { result ≡ content_of Path s.now }
 {
