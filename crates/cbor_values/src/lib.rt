@@ -38,6 +38,7 @@ fn due(n: u8, low: u8, high: u8) -> Tail
     Tail::Due { n, low, high }
 }
 
+#[tactic(auto, unfolding(crate::specs::Utf8::lead_of))]
 fn lead_of(c: u8) -> Tail
     ensures { result ≡ lead_of c }
 {
@@ -149,6 +150,7 @@ fn text(s: &[u8], at: usize, next: usize, n: u64) -> Item
 
 // One value at `at`, with `depth` levels of arrays left.
 #[cycle(items_read_value)]
+#[tactic(auto, using(crate::proofs::ItemReads::too_small, crate::proofs::ItemReads::simple, crate::proofs::ItemReads::too_large))]
 pub fn read_value(s: &[u8], at: usize, depth: u8) -> Item
     ensures { result ≡ value_of depth s.now at }
 {

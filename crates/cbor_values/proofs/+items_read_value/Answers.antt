@@ -2,7 +2,7 @@ use mathlib.Core.Path.{◌≡◌, sym, ◌∙◌}
 use native.Mathlib.Omega.{arith}
 use Rattle.cbor_heads.proofs.HeadLaws.{next_in}
 use Rattle.cbor_values.specs.Reading.{items_of}
-use Rattle.cbor_values.proofs.ItemReads.{no_head, number, bytes, text, too_small, simple, too_large, other, too_deep, array, one_bad, one_more}
+use Rattle.cbor_values.proofs.ItemReads.{no_head, number, bytes, text, other, too_deep, array, one_bad, one_more}
 use Rattle.cbor_values.proofs.+items_read_value.Goals as goal
 
 pub items-returns-in-Bad : goal.items-returns-in-Bad
@@ -21,12 +21,6 @@ read_value-run-requires t c = (next_in _ _ (sym c.read_head.ensures ∙ c.in-Got
 pub read_value-text-requires : goal.read_value-text-requires
 read_value-text-requires t c = (next_in _ _ (sym c.read_head.ensures ∙ c.in-Got.is)).1
 
-pub read_value-returns-then-n-lt-FALSE : goal.read_value-returns-then-n-lt-FALSE
-read_value-returns-then-n-lt-FALSE t c = too_small _ _ _ (sym c.read_head.ensures ∙ c.in-Got.is) c.in-7.is c.if-n-lt-FALSE.true
-
-pub read_value-returns-then-n-le-NULL : goal.read_value-returns-then-n-le-NULL
-read_value-returns-then-n-le-NULL t c = simple _ _ _ (sym c.read_head.ensures ∙ c.in-Got.is) c.in-7.is c.if-n-lt-FALSE.false c.if-n-le-NULL.true
-
 pub read_value-returns-in-Bad : goal.read_value-returns-in-Bad
 read_value-returns-in-Bad t c = no_head _ _ _ (sym c.read_head.ensures ∙ c.in-Bad.is)
 
@@ -41,9 +35,6 @@ read_value-returns-then-depth-eq0 t c = too_deep _ _ (sym c.read_head.ensures �
 
 pub read_value-returns-else-depth-eq0 : goal.read_value-returns-else-depth-eq0
 read_value-returns-else-depth-eq0 t c = c.items.ensures ∙ array _ _ (sym c.read_head.ensures ∙ c.in-Got.is) c.in-4.is _ c.if-depth-eq0.false
-
-pub read_value-returns-else-n-le-NULL : goal.read_value-returns-else-n-le-NULL
-read_value-returns-else-n-le-NULL t c = too_large _ _ _ (sym c.read_head.ensures ∙ c.in-Got.is) c.in-7.is c.if-n-lt-FALSE.false c.if-n-le-NULL.false
 
 pub read_value-returns-in-0 : goal.read_value-returns-in-0
 read_value-returns-in-0 t c = number _ _ _ (sym c.read_head.ensures ∙ c.in-Got.is) c.in-0.if-major-lt2-own.true
