@@ -173,6 +173,7 @@ fn key_index(names: Names, c: &[u8]) -> u32
     }
 }
 
+#[tactic(auto, unfolding(crate::specs::Reading::known_by, crate::specs::Reading::key_by))]
 pub fn key_at(s: &[u8], at: usize, names: Names) -> Key
     ensures { result ≡ key_at names s.now at }
 {
@@ -190,6 +191,7 @@ pub fn key_at(s: &[u8], at: usize, names: Names) -> Key
     }
 }
 
+#[tactic(auto, unfolding(crate::specs::Reading::wanted_by))]
 pub fn wanted_key(s: &[u8], at: usize, names: Names, want: u32) -> Item
     ensures { result ≡ wanted_key names s.now at want }
 {
