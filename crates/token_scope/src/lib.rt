@@ -89,6 +89,7 @@ pub fn read_methods(s: &[u8], at: usize) -> MethodsParts
 }
 
 // Where `left` entries are left behind the methods.
+#[tactic(auto, unfolding(crate::specs::Reading::another_then, crate::specs::Reading::max_bytes_then, crate::specs::Reading::limit_then))]
 fn limit_then(s: &[u8], prefix: Part, methods: ListAt, left: u64) -> ScopeParts
     ensures { result ≡ limit_then s.now prefix methods left }
 {
@@ -145,6 +146,7 @@ fn methods_then(s: &[u8], at: usize, prefix: Part, left: u64) -> ScopeParts
 }
 
 // Where the prefix's value is at `next`, in a map of n entries at `at`.
+#[tactic(auto, unfolding(crate::specs::Reading::prefix_next, crate::specs::Reading::prefix_then))]
 fn prefix_then(s: &[u8], at: usize, n: u64, next: usize) -> ScopeParts
     ensures { result ≡ prefix_then s.now at n next }
 {
