@@ -45,6 +45,7 @@ fn tag_field(s: &[u8], at: usize) -> Content
     }
 }
 
+#[tactic(auto, unfolding(crate::specs::Values::version_then, crate::specs::Values::version_at, crate::specs::Back::version_field))]
 fn version_field(s: &[u8], at: usize) -> Item
     ensures { result ≡ version_field s.now at }
 {
@@ -65,6 +66,7 @@ fn version_field(s: &[u8], at: usize) -> Item
     }
 }
 
+#[tactic(auto, unfolding(crate::specs::Back::end_then, crate::specs::Back::tid_then, crate::specs::Back::kid_then, crate::specs::Back::v_then, crate::specs::Back::back_of))]
 pub fn read_back(s: &[u8], at: usize) -> BackParts
     ensures { result ≡ back_of s.now at }
 {
