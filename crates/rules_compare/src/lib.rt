@@ -16,6 +16,7 @@ use token_scope::Limit;
 
 // Whether a prefix fits a path. The loop goes on behind a byte that differs, so that the compiler takes many
 // at a time, and keeps the prefix's last byte, so that none is read again.
+#[tactic(auto, using(crate::proofs::Walks::too_short, crate::proofs::Walks::path_ends, crate::proofs::Walks::slash_before, crate::proofs::Walks::slash_behind, crate::proofs::Walks::no_slash))]
 pub fn fits(prefix: &[u8], path: &[u8]) -> bool
     ensures { result ≡ fits_of prefix.now path.now }
 {
