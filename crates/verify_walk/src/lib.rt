@@ -60,6 +60,7 @@ pub fn links(s: &[u8], caveats: ListAt, key: &[u8], first: [u8; 32]) -> [u8; 32]
 }
 
 // The first answer that is not 0 stays; no later caveat is judged.
+#[tactic(auto, unfolding(crate::specs::Walking::so_far))]
 fn so_far(
     answer: u32,
     part: &[u8],
@@ -155,6 +156,7 @@ pub fn link_first(key: &[u8], s: &[u8], token: TokenAt) -> [u8; 32]
 }
 
 // With the key: the tag over all its bytes, the tenant, the scope, the caveats.
+#[tactic(auto, using(crate::proofs::Keyed::scope_holds, crate::proofs::Keyed::scope_fails, crate::proofs::Keyed::other_tenant, crate::proofs::Keyed::other_tag))]
 pub fn with_key(key: &[u8], s: &[u8], token: TokenAt, body: &[u8], request: RequestAt) -> u32
     requires { Ready key.now s.now token }
     ensures { result ≡ key_judged key.now s.now token body.now request }
