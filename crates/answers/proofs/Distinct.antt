@@ -1,16 +1,11 @@
 -- Two answers never share a number or a name: each number, and each name, leads back to its answer. A number is told as free
 -- exactly where no answer has it.
-use mathlib.Core.Path.{◌≡◌, refl, sym, ap, ◌∙◌}
-use mathlib.Core.Bool.{Bool, true, false, ◌&&◌}
-use mathlib.Core.List.{List, [], ◌∷◌}
-use Prim.Native.Nat.{ℕ}
-use native.Mathlib.Omega.{arith}
-use borrow.Author.Tests.{eqb-true}
-use lib.Dec.{eqb}
-use Rattle.basis.specs.Basis.{pick}
-use Rattle.answers.specs.Answers.{number_of, name_of, list, with_number, answer_of}
+use Rattle.std.proofs.Common.{◌≡◌, ℕ, Bool, true, false, cond, ◌&&◌, ◌==◌, List, [], ◌∷◌, Option, Some, None, refl, sym, ap, ◌∙◌}
+use Rattle.std.specs.List.{find, list_all}
+use Rattle.std.specs.Str.{bytes_eq}
+use Rattle.std.proofs.lemmas.Bool.{eqb-true}
+use Rattle.answers.specs.Answers.{number_of, name_of, list, answer_of}
 use Rattle.answers.specs.declared.Answer.{Answer}
-use Rattle.answers.specs.declared.Listed.TheVariants.{Of, Free}
 use Rattle.answers.specs.declared.Answer.TheVariants.{
   Allow,
   TableBad,
@@ -43,21 +38,11 @@ use Rattle.answers.specs.declared.Answer.TheVariants.{
   HashBad,
 }
 
-find : (Answer → Bool) → List Answer → Answer
-find test [] = Allow
-find test (a ∷ rest) = pick (test a) a (find test rest)
+by_name : List ℕ → Option Answer
+by_name s = find (λ a. bytes_eq s (name_of a)) list
 
-alike : List ℕ → List ℕ → Bool
-alike [] [] = true
-alike [] (y ∷ t) = false
-alike (x ∷ s) [] = false
-alike (x ∷ s) (y ∷ t) = eqb x y && alike s t
-
-by_name : List ℕ → Answer
-by_name s = find (λ a. alike (name_of a) s) list
-
-back : (a : Answer) → (answer_of (number_of a) ≡ Of a) × (by_name (name_of a) ≡ a)
-unfolding answer_of by_name find alike
+back : (a : Answer) → (answer_of (number_of a) ≡ Some a) × (by_name (name_of a) ≡ Some a)
+unfolding answer_of by_name
 back Allow = (refl, refl)
 back TableBad = (refl, refl)
 back CtxBad = (refl, refl)
@@ -88,31 +73,32 @@ back SizeFull = (refl, refl)
 back OutShort = (refl, refl)
 back HashBad = (refl, refl)
 
-pub number_back : (a : Answer) → answer_of (number_of a) ≡ Of a
+pub number_back : (a : Answer) → answer_of (number_of a) ≡ Some a
 number_back a = (back a).0
 
-found_number : (n : ℕ) (l : List Answer) {a : Answer} → with_number n l ≡ Of a → number_of a ≡ n
-found_number n [] e = let z : ◌≡◌ {A = ℕ} 0 1 = cc in let z : ⊥ = omega arith in elim z [ ]
-found_number n (b ∷ rest) {a} e = by (eqb n (number_of b)) refl e (found_number n rest)
+-- what is found passes the test, and any other that all of the list pass
+pub found : {A : Type 0} (test other : A → Bool) (l : List A) {a : A} → list_all other l ≡ true → find test l ≡ Some a
+    → (test a ≡ true) × (other a ≡ true)
+found test other [] all e = let z : ⊥ = cc in absurd z
+found test other (b ∷ rest) {a} all e = by (test b) (other b) refl refl all e (found test other rest)
   where
-    by : (t : Bool) → eqb n (number_of b) ≡ t → pick t (Of b) (with_number n rest) ≡ Of a → (with_number n rest ≡ Of a → number_of a ≡ n) → number_of a ≡ n
-    by true q p h = let x : b ≡ a = cc in ap number_of (sym x) ∙ sym (eqb-true n (number_of b) q)
-    by false q p h = h p
+    by : (t o : Bool) → test b ≡ t → other b ≡ o → (o && list_all other rest) ≡ true → cond t (Some b) (find test rest) ≡ Some a
+        → (list_all other rest ≡ true → find test rest ≡ Some a → (test a ≡ true) × (other a ≡ true)) → (test a ≡ true) × (other a ≡ true)
+    by true true p q all e h = let x : b ≡ a = cc in (ap test (sym x) ∙ p, ap other (sym x) ∙ q)
+    by false true p q all e h = h all e
+    by t false p q all e h = let z : ⊥ = cc in absurd z
 
 -- the other way: a number that is told as an answer's is that answer's
-pub listed_number : (n : ℕ) {a : Answer} → answer_of n ≡ Of a → number_of a ≡ n
+pub listed_number : (n : ℕ) {a : Answer} → answer_of n ≡ Some a → number_of a ≡ n
 unfolding answer_of
-listed_number n e = found_number n list e
+listed_number n {a} e = sym (eqb-true n (number_of a) (found (λ b. n == number_of b) (λ b. true) list refl e).0)
 
 -- and one that is told as free is no answer's
-pub free_number : (n : ℕ) → answer_of n ≡ Free → (a : Answer) → number_of a ≡ n → ⊥
-free_number n e a q =
-    let p : Of a ≡ Free = sym (number_back a) ∙ ap answer_of q ∙ e in
-    let z : ◌≡◌ {A = ℕ} 0 1 = cc in
-    omega arith
+pub free_number : (n : ℕ) → answer_of n ≡ None → (a : Answer) → number_of a ≡ n → ⊥
+free_number n e a q = let p : Some a ≡ None = sym (number_back a) ∙ ap answer_of q ∙ e in cc
 
 pub numbers_differ : (a b : Answer) → number_of a ≡ number_of b → a ≡ b
-numbers_differ a b e = let p : Of a ≡ Of b = sym (number_back a) ∙ ap answer_of e ∙ number_back b in cc
+numbers_differ a b e = let p : Some a ≡ Some b = sym (number_back a) ∙ ap answer_of e ∙ number_back b in cc
 
 pub names_differ : (a b : Answer) → name_of a ≡ name_of b → a ≡ b
-names_differ a b e = sym (back a).1 ∙ ap by_name e ∙ (back b).1
+names_differ a b e = let p : Some a ≡ Some b = sym (back a).1 ∙ ap by_name e ∙ (back b).1 in cc

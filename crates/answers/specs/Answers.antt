@@ -1,11 +1,9 @@
 -- Meaning. The one numbered list: document 01, "Numbers and names". Each answer has its number and its name here, and the demands'
 -- statements name answers. Definitions that follow the code have the numbers as the code has them; the demands' theorems hold them to this
 -- list.
-use Rattle.std.specs.Prelude.{List, [], ◌∷◌, ℕ, eqb}
-use Rattle.basis.specs.Basis.{pick, ascii}
+use Rattle.std.specs.Prelude.{List, [], ◌∷◌, ℕ, ◌==◌, Option, find}
+use Rattle.basis.specs.Basis.{ascii}
 use Rattle.answers.specs.declared.Answer.{Answer}
-use Rattle.answers.specs.declared.Listed.{Listed}
-use Rattle.answers.specs.declared.Listed.TheVariants.{Of, Free}
 use Rattle.answers.specs.declared.Answer.TheVariants.{
   Allow,
   TableBad,
@@ -106,10 +104,6 @@ abbrev pub list : List Answer
 list =
     Allow ∷ TableBad ∷ CtxBad ∷ ParseB64 ∷ ParseCbor ∷ ParseBounds ∷ SchemaUnknownField ∷ KidUnknown ∷ MacMismatch ∷ TenantMismatch ∷ CaveatMethod ∷ CaveatPath ∷ CaveatBytes ∷ CaveatExp ∷ CaveatNbf ∷ CaveatAud ∷ CaveatIp ∷ CaveatRate ∷ CaveatTenant ∷ CaveatAmnesia ∷ CaveatPolicyDigest ∷ CaveatCustomUnknown ∷ CavCbor ∷ CavBounds ∷ CavUnknown ∷ CavFull ∷ SizeFull ∷ OutShort ∷ HashBad ∷ []
 
--- the one with this number; `Free`: no answer has it
-abbrev pub with_number : ℕ → List Answer → Listed
-with_number n [] = Free
-with_number n (a ∷ rest) = pick (eqb n (number_of a)) (Of a) (with_number n rest)
-
-unfoldable pub answer_of : ℕ → Listed
-answer_of n = with_number n list
+-- the one with this number; `None`: no answer has it
+unfoldable pub answer_of : ℕ → Option Answer
+answer_of n = find (λ a. n == number_of a) list

@@ -7,3 +7,4 @@ pub mod Sameness
 pub mod Parts
 pub mod Picks
 pub mod Held
+pub mod Pairs

@@ -1,5 +1,6 @@
 -- Lent room: a text written whole or not at all, and a part of the room that was lent on to another writer.
-use mathlib.Core.Path.{◌≡◌, sym, ◌∙◌}
+use mathlib.Core.Path.{◌≡◌, sym, ap, ◌∙◌}
+use Rattle.std.specs.Prelude.{Some, None}
 use mathlib.Core.List.{List, [], ◌∷◌, ◌++◌, append_assoc, append-nil}
 use Prim.Native.Nat.{ℕ, suc, ◌+◌, ◌-◌, ◌≤◌, ◌<◌}
 use native.Mathlib.Numerals.{add-one}
@@ -11,13 +12,13 @@ use lib.Seq.{drop-cons, set_at, take-length, take_all, drop-length, drop-drop, d
 use Rattle.basis.specs.Basis.{over, Written}
 
 module _ (text entry : List ℕ) where
-  pub too_short : length entry < length text → Written text entry 0 entry
+  pub too_short : length entry < length text → Written text entry None entry
   too_short h = record { counted = rw (lt-leb _ _ h); content = rw (lt-leb _ _ h) }
 
   pub all_written : (exit : List ℕ) {r : ℕ} → length text ≤ length entry → r ≡ length text
-      → exit ≡ take (length text) text ++ drop (length text) entry → Written text entry r exit
+      → exit ≡ take (length text) text ++ drop (length text) entry → Written text entry (Some r) exit
   all_written exit h e x =
-      record { counted = rw (le-leb _ _ h) e; content = rw (le-leb _ _ h) (x ∙ rw take-length) }
+      record { counted = rw (le-leb _ _ h) (ap Some e); content = rw (le-leb _ _ h) (x ∙ rw take-length) }
 
 -- a part from a on is lent to a writer that puts w at its front
 pub lent : (x w p : List ℕ) (a : ℕ) → a + length w ≤ length x → p ≡ over w (take (length x - a) (drop a x))

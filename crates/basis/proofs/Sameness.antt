@@ -1,6 +1,6 @@
 -- Strings that are found the same are equal, and equal ones are found the same; and the walk that finds it.
 use mathlib.Core.Path.{◌≡◌, refl, ap, ap₂, subst}
-use mathlib.Core.Bool.{Bool, true, false}
+use mathlib.Core.Bool.{Bool, true, false, ◌&&◌}
 use mathlib.Core.List.{List, [], ◌∷◌}
 use Prim.Native.Nat.{ℕ, ◌+◌, ◌≤◌, ◌<◌}
 use native.Mathlib.Numerals.{add-one}
@@ -9,21 +9,18 @@ use borrow.Author.Tests.{eqb-true, eq-eqb, ne_eqb}
 use lib.Dec.{eqb}
 use lib.ListN.{length, drop, get_or, drop_of_length-le}
 use lib.Seq.{drop-cons}
-use Rattle.basis.specs.Basis.{pick}
 use Rattle.basis.specs.Same.{same_of}
 
 pub same_equal : (s t : List ℕ) → same_of s t ≡ true → s ≡ t
-unfolding same_of
 same_equal [] [] e = refl
 same_equal [] (b ∷ t) e = let z : ◌≡◌ {A = ℕ} 0 1 = cc in let z : ⊥ = omega arith in elim z [ ]
 same_equal (a ∷ s) [] e = let z : ◌≡◌ {A = ℕ} 0 1 = cc in let z : ⊥ = omega arith in elim z [ ]
 same_equal (a ∷ s) (b ∷ t) e = by (eqb a b) refl (same_equal s t) e where
-  by : (u : Bool) → eqb a b ≡ u → (same_of s t ≡ true → s ≡ t) → pick u (same_of s t) false ≡ true → a ∷ s ≡ b ∷ t
+  by : (u : Bool) → eqb a b ≡ u → (same_of s t ≡ true → s ≡ t) → (u && same_of s t) ≡ true → a ∷ s ≡ b ∷ t
   by true p h q = ap₂ ◌∷◌ (eqb-true a b p) (h q)
   by false p h q = let z : ◌≡◌ {A = ℕ} 0 1 = cc in let z : ⊥ = omega arith in elim z [ ]
 
 same_self : (s : List ℕ) → same_of s s ≡ true
-unfolding same_of
 same_self [] = refl
 same_self (a ∷ s) = rw (eq-eqb a a refl) (same_self s)
 
@@ -47,7 +44,6 @@ alike_none s t l = record { equal_lengths = l; inside = omega arith; rest = refl
 
 module _ (s t : List ℕ) (i : ℕ) (w : Alike s t i) where
   pub alike_all : length s ≤ i → true ≡ same_of s t
-  unfolding same_of
   alike_all h = let g : length t ≤ i = omega (arith, w.equal_lengths) in rw (drop_of_length-le s h, drop_of_length-le t g) at w.rest
 
   module _ (h : i < length s) where
@@ -55,11 +51,9 @@ module _ (s t : List ℕ) (i : ℕ) (w : Alike s t i) where
     in_t = omega (arith, w.equal_lengths)
 
     pub differ : (get_or s i 0 ≡ get_or t i 0 → ⊥) → false ≡ same_of s t
-    unfolding same_of
     differ d = rw (drop-cons s i 0 h, drop-cons t i 0 in_t, ne_eqb _ _ d) at w.rest
 
     pub alike_one : get_or s i 0 ≡ get_or t i 0 → Alike s t (i + 1)
-    unfolding same_of
     alike_one e = record {
       equal_lengths = w.equal_lengths;
       inside = omega arith;

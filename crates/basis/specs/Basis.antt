@@ -1,6 +1,6 @@
 -- Meaning. Words that every crate's definitions share: a choice by a test, a name's bytes, a list by its rule, a text over the front of a
 -- room. They say nothing of tokens.
-use Rattle.std.specs.Prelude.{◌≡◌, Bool, true, false, List, [], ◌∷◌, ◌++◌, ℕ, zero, suc, ◌+◌, ◌-◌, ◌<◌, min, length, take, drop, get_or, leb, ltb}
+use Rattle.std.specs.Prelude.{◌≡◌, Bool, true, false, List, [], ◌∷◌, ◌++◌, ℕ, zero, suc, ◌+◌, ◌-◌, ◌<◌, min, length, take, drop, get_or, leb, ltb, Option, Some, None}
 use Prim.Native.Char.{code}
 use Prim.Native.String.{String, [] as none, ◌∷◌ as ◌then◌}
 use Rattle.basis.specs.declared.Span.{Span}
@@ -42,7 +42,7 @@ tab (suc n) f = tab n f ++ (f n ∷ [])
 abbrev pub over : List ℕ → List ℕ → List ℕ
 over text room = text ++ drop (length text) room
 
--- a text is written where the room holds it, with its length as the count; otherwise nothing is, and the count is 0
-pub record Written (text entry : List ℕ) (count : ℕ) (exit : List ℕ) : Type 0 where
-  pub counted : count ≡ pick (leb (length text) (length entry)) (length text) 0
+-- a text is written where the room holds it, and its length is told; otherwise nothing is
+pub record Written (text entry : List ℕ) (count : Option ℕ) (exit : List ℕ) : Type 0 where
+  pub counted : count ≡ pick (leb (length text) (length entry)) (Some (length text)) None
   pub content : exit ≡ pick (leb (length text) (length entry)) (over text entry) entry

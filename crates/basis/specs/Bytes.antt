@@ -1,5 +1,5 @@
 -- Meaning. Where a byte first stands in a string: its index, or the string's length where it does not occur.
-use Rattle.std.specs.Prelude.{Bool, true, false, List, [], ◌∷◌, ℕ, zero, suc, eqb}
+use Rattle.std.specs.Prelude.{Bool, true, false, List, [], ◌∷◌, ℕ, suc, eqb}
 
 -- the index behind one more byte, which may be the one that is looked for
 unfoldable pub index_after : Bool → ℕ → ℕ

@@ -1,9 +1,6 @@
--- Meaning. Whether two strings of bytes are the same, decided byte by byte.
-use Rattle.std.specs.Prelude.{Bool, true, false, List, [], ◌∷◌, ℕ, eqb}
-use Rattle.basis.specs.Basis.{pick}
+-- Meaning. Whether two strings of bytes are the same: they are as long, and so are their bytes one by one.
+use Rattle.std.specs.Prelude.{Bool, List, ℕ}
+use Rattle.std.specs.Str.{bytes_eq}
 
-unfoldable pub same_of : List ℕ → List ℕ → Bool
-same_of [] [] = true
-same_of [] (b ∷ t) = false
-same_of (a ∷ s) [] = false
-same_of (a ∷ s) (b ∷ t) = pick (eqb a b) (same_of s t) false
+abbrev pub same_of : List ℕ → List ℕ → Bool
+same_of = bytes_eq

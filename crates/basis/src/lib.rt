@@ -3,7 +3,6 @@
 
 ghost use Rattle.std.specs.Prelude.{◌≡◌, ◌++◌, min, length, take, drop};
 ghost use Rattle.basis.specs.Basis.{between, behind, part_place, Written};
-ghost use Rattle.basis.specs.Same.{same_of};
 
 pub mod limits;
 
@@ -14,57 +13,27 @@ pub struct Span {
     pub to: usize,
 }
 
-// A part that may be absent.
-#[derive(Clone, Copy)]
-pub enum Part {
-    Absent,
-    At { span: Span },
-}
-
-// The smaller of two counts.
-pub fn least(a: usize, b: usize) -> usize
-    ensures { result ≡ min a b }
-{
-    if a < b { a } else { b }
-}
-
-// The front of `from` over the front of `to`, as far as both reach, and how many bytes that is.
+// The front of `from` over the front of `to`, as far as both reach, and how many bytes that is. No `copy_from_slice`:
+// what C links asks for memcpy and memset alone (tools/archives), and that one calls memmove.
 pub fn copy(from: &[u8], to: &mut [u8]) -> usize
     ensures count { result ≡ min (length from.now) (length to.old) }
     ensures content { to.new ≡ take result from.now ++ drop result to.old }
 {
-    let n = least(from.len(), to.len());
+    let n = from.len().min(to.len());
     for i in 0..n {
         to[i] = from[i];
     }
     n
 }
 
-// Writes a text at the front of the room and says its length, or writes nothing and says 0 where the
-// room is too short.
-pub fn put(text: &[u8], room: &mut [u8]) -> usize
+// Writes a text at the front of the room and says its length, or writes nothing where the room is too short.
+pub fn put(text: &[u8], room: &mut [u8]) -> Option<usize>
     ensures { Written text.now room.old result room.new }
 {
     if room.len() < text.len() {
-        return 0;
+        return None;
     }
-    copy(text, room)
-}
-
-pub fn same(x: &[u8], y: &[u8]) -> bool
-    ensures { result ≡ same_of x.now y.now }
-{
-    if x.len() != y.len() {
-        return false;
-    }
-    let mut i: usize = 0;
-    while i < x.len() {
-        if x[i] != y[i] {
-            return false;
-        }
-        i += 1;
-    }
-    true
+    Some(copy(text, room))
 }
 
 // The bytes of a part, as far as there are any: for places that were told by someone else.
@@ -73,7 +42,7 @@ pub fn lend<'a>(s: &'a [u8], span: Span) -> &'a [u8]
     ensures ref_ptr_value { result.ref_ptr ≡ behind s.entry.ref_ptr (part_place s.now span) }
 {
     let from = span.from;
-    let end = least(span.to, s.len());
+    let end = span.to.min(s.len());
     if end < from {
         return &s[0..0];
     }

@@ -29,7 +29,7 @@ module _ (table tid kid bytes : List ℕ) where
 
   module _ (rows : List Row) (t : EncodesTable table rows) where
     pub issue_defect : (n : ℕ) → ScopeDefect bytes n → issue_of table tid kid bytes ≡ refused n
-    issue_defect n (scope_unreadable at e) = sym (issue_bad_scope table tid kid bytes (good_table table rows t) (defect_scope bytes 0 e))
+    issue_defect n (scope_unreadable d e m) = sym (issue_bad_scope table tid kid bytes (good_table table rows t) (defect_scope bytes 0 e)) ∙ ap refused (sym m)
     issue_defect n (scope_left_over scope g rest e h z) =
         let w = scope_written scope g bytes rest 0 e in
         sym (issue_left_over table tid kid bytes (good_table table rows t) w.answer (λ l. all_left bytes (encode_scope scope) rest e h (omega (arith, l)))) ∙ ap refused (sym z)

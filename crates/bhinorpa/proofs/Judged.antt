@@ -26,8 +26,8 @@ use Rattle.records_request.specs.declared.RequestAt.{RequestAt}
 use Rattle.records_request.proofs.Holds.{Holds as RequestHeld}
 use Rattle.rules.specs.Holding.{failing, caveat_holds, scope_answer, caveat_answer}
 use Rattle.rules.proofs.RuleLaws.{scope_law, caveat_law}
-use Rattle.verify_walk.specs.Walking.{so_far, walk_ends, over_caveats, walk_bad, walk_add, walked_of, scope_answered, tenant_judged, tag_judged, key_judged}
-use Rattle.verify_walk.specs.declared.Walked.{Walked}
+use Rattle.verify_walk.specs.Walking.{scope_then, so_far, walk_ends, over_caveats, walk_bad, walk_add, walked_of, scope_answered, tenant_judged, tag_judged, key_judged}
+use Rattle.verify_walk.specs.Walking.{Walked}
 use Rattle.verify.specs.Verifying.{key_found, token_judged, bytes_judged}
 use Rattle.bhinorpa.specs.Allowed.{caveat_bytes, chain_tag, key_for, method_holds, path_holds, bytes_hold, failing_first, caveat_checks, scope_checks, checks_of}
 use Rattle.bhinorpa.proofs.Walks.{Lies, over_law}
@@ -111,7 +111,7 @@ module _ (body tid key : List ℕ) (r : Request) (q : RequestAt) (h : RequestHel
   walked_law = over_law walk_bad (walk_add key body q tid) tree_ends ends_none ends_one
 
   scope_at_law : (s : List ℕ) (x : Scope) → GoodScope x → (at end : ℕ) → drop at s ≡ encode_scope x ++ drop end s → scope_answered s at body q ≡ scope_answer r x
-  unfolding scope_answered
+  unfolding scope_then
   scope_at_law s x g at end e = let w = scope_written x g s (drop end s) at e in rw w.answer (scope_law s x g w.holds body r q h)
 
 -- the checks behind the key

@@ -35,7 +35,7 @@ unread_refused : (table text bytes : List ℕ) (n : ℕ) → Unread text n → t
 unfolding text_narrowed decoded_of decoded_narrowed bytes_narrowed token_narrowed
 unread_refused table text bytes n (unread_long l e) = sym (narrow_too_long table text bytes l) ∙ ap refused (sym e)
 unread_refused table text bytes n (unread_fault l at j e) = rw (le-ltb 5462 (length text) l, j) (ap refused (sym e))
-unread_refused table text bytes n (unread_bytes l k j at f) = rw (le-ltb 5462 (length text) l, j, le-leb k 4096 (bytes_few text j l), f)
+unread_refused table text bytes n (unread_bytes l k j d f m) = rw (le-ltb 5462 (length text) l, j, le-leb k 4096 (bytes_few text j l), f) (ap refused (sym m))
 
 other_tag : (link tag : List ℕ) → (link ≡ tag → ⊥) → same_of link tag ≡ false
 other_tag link tag h = by (same_of link tag) refl
@@ -67,7 +67,7 @@ module _ (table text bytes : List ℕ) where
     tagged = of_tree rows p.table_is token p.canonical ∙ rw (p.known, equal_same (chain_tag (key_for rows token) token) token.tag p.tagged)
 
     pub narrow_caveat_defect : (n : ℕ) → CaveatDefect bytes n → narrow_of table text bytes ≡ refused (n + 27)
-    narrow_caveat_defect n (caveat_unreadable at e) = tagged ∙ rw (defect_caveat bytes e)
+    narrow_caveat_defect n (caveat_unreadable d e m) = tagged ∙ rw (defect_caveat bytes e) (ap (λ (n : ℕ). refused (n + 27)) (sym m))
     narrow_caveat_defect n (caveat_left_over caveat g rest e h z) =
         let w = caveat_written caveat g bytes rest e in
         tagged ∙ rw (w.answer, ne_eqb (length (encode_caveat caveat)) (length bytes) (all_left bytes (encode_caveat caveat) rest e h)) (ap (λ (k : ℕ). refused (k + 27)) (sym z))

@@ -1,4 +1,7 @@
 -- Of a canonical parent, narrow's checks where the parts lie are checks on its tree.
+use Rattle.std.specs.Prelude.{Ok, Err}
+use Rattle.cbor_heads.specs.Defects.{Reading, kind_number}
+use Rattle.token_caveat_values.specs.declared.CaveatAt.{CaveatAt}
 use mathlib.Core.Path.{◌≡◌, refl, ap}
 use mathlib.Core.List.{List}
 use Prim.Native.Nat.{ℕ, ◌+◌}
@@ -13,8 +16,6 @@ use Rattle.text_reading.proofs.TextLaws.{bytes_text, judged_text}
 use Rattle.hash_chain.specs.Chain.{first_link, next_link, tag_of}
 use Rattle.token_scope.specs.Scopes.{encode_scope}
 use Rattle.token_caveat.specs.Reading.{caveat_of}
-use Rattle.token_caveat_values.specs.declared.CaveatParts.{CaveatParts}
-use Rattle.token_caveat_values.specs.declared.CaveatParts.TheVariants.{Of, Bad}
 use Rattle.token.specs.Tokens.{Token, encode_caveats, encode_token, GoodToken}
 use Rattle.token.specs.declared.TokenAt.{TokenAt}
 use Rattle.token.specs.Writing.{child_bytes}
@@ -36,9 +37,9 @@ child_tree key link t caveat =
     pick (leb 64 (length t.caveats)) (refused 34)
     (sized (child_bytes (length t.caveats) (encode_caveats t.caveats) caveat (encode_scope t.scope) (next_link key link caveat) t.kid t.tid))
 
-abbrev pub add_tree : List ℕ → List ℕ → Token → List ℕ → CaveatParts → Decision
-add_tree key link t caveat (Bad kind at) = refused (kind + 27)
-add_tree key link t caveat (Of part next) = pick (eqb next (length caveat)) (child_tree key link t caveat) (refused 31)
+abbrev pub add_tree : List ℕ → List ℕ → Token → List ℕ → Reading (CaveatAt × ℕ) → Decision
+add_tree key link t caveat (Err d) = refused (kind_number d.kind + 27)
+add_tree key link t caveat (Ok (part, next)) = pick (eqb next (length caveat)) (child_tree key link t caveat) (refused 31)
 
 abbrev pub narrow_tree : List Row → Token → List ℕ → Decision
 narrow_tree rows t caveat =
@@ -50,10 +51,10 @@ module _ (key s : List ℕ) (t : Token) (g : GoodToken t) (caveat : List ℕ) {p
   unfolding child_of
   child_law link = rw (← w.front.counted_so, w.front.caveats_held, w.front.scope_held, w.back.kid_held, w.back.tid_held)
 
-  add_law : (link : List ℕ) (r : CaveatParts) → caveat_added key link s p caveat r ≡ add_tree key link t caveat r
+  add_law : (link : List ℕ) (r : Reading (CaveatAt × ℕ)) → caveat_added key link s p caveat r ≡ add_tree key link t caveat r
   unfolding caveat_added
-  add_law link (Bad kind at) = refl
-  add_law link (Of part next) = ap (λ (h : Decision). pick (eqb next (length caveat)) h (refused 31)) (child_law link)
+  add_law link (Err d) = refl
+  add_law link (Ok (part, next)) = ap (λ (h : Decision). pick (eqb next (length caveat)) h (refused 31)) (child_law link)
 
   last_law : links_of s p.caveats key (first_link key t.tid t.kid (encode_scope t.scope)) ≡ chain_tag key t
   unfolding tag_of

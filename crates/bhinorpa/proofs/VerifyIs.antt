@@ -17,8 +17,7 @@ use Rattle.records_table.proofs.TableLaws.{table_written}
 use Rattle.records_request.specs.Requests.{Request, encode_request}
 use Rattle.records_request.specs.Reading.{request_of}
 use Rattle.records_request.specs.declared.RequestAt.{RequestAt}
-use Rattle.records_request.specs.declared.RequestParts.{RequestParts}
-use Rattle.records_request.specs.declared.RequestParts.TheVariants.{Of, Bad}
+use Rattle.std.specs.Prelude.{Option, Some, None}
 use Rattle.records_request.proofs.Holds.{Holds}
 use Rattle.records_request.proofs.RequestWritten.{request_written}
 use Rattle.records_request.proofs.RequestRead.{request_read}
@@ -43,7 +42,7 @@ module _ (rows : List Row) (gr : GoodTable rows) (body : List ℕ) (asked : Requ
   unfolding text_judged decoded_of decoded_judged bytes_judged token_judged
   unread_is n (unread_long l e) = sym (long_is (encode_table rows) text body q l) ∙ sym e
   unread_is n (unread_fault l at j e) = rw (le-ltb 5462 (length text) l, j) (sym e)
-  unread_is n (unread_bytes l k j at f) = rw (le-ltb 5462 (length text) l, j, le-leb k 4096 (bytes_few text j l), f)
+  unread_is n (unread_bytes l k j d f m) = rw (le-ltb 5462 (length text) l, j, le-leb k 4096 (bytes_few text j l), f) (sym m)
 
 -- with a good table and a good request, the text decides
 module _ (table request : List ℕ) (rows : List Row) (t : EncodesTable table rows) (asked : Request) (r : EncodesRequest request asked) (text : List ℕ) where
@@ -65,28 +64,28 @@ module _ (table request text : List ℕ) where
   unfolding verify_of
   verify_no_table e = rw e
 
-  pub verify_no_request : table_ok table ≡ true → request_of request ≡ Bad → verify_of table request text ≡ 2
+  pub verify_no_request : table_ok table ≡ true → request_of request ≡ None → verify_of table request text ≡ 2
   unfolding verify_of request_judged
   verify_no_request e p = rw (e, p)
 
 -- a request's bytes are those of one good request exactly where the reading takes them
 pub data RequestIs (request : List ℕ) : Type 0 where
-  no_request : NoRequest request → request_of request ≡ Bad → RequestIs request
+  no_request : NoRequest request → request_of request ≡ None → RequestIs request
   one_request : (asked : Request) → EncodesRequest request asked → RequestIs request
 
 pub request_is : (request : List ℕ) → IsBytes request → RequestIs request
 request_is request b = by (request_of request) refl
   where
-    apart : {parts : RequestAt} → ◌≡◌ {A = RequestParts} Bad (Of parts) → ⊥
+    apart : {parts : RequestAt} → ◌≡◌ {A = Option RequestAt} None (Some parts) → ⊥
     apart x = let z : ◌≡◌ {A = ℕ} 0 1 = cc in omega arith
 
-    by : (p : RequestParts) → request_of request ≡ p → RequestIs request
-    by Bad e = no_request (λ asked r. apart (sym e ∙ (request_written asked r.good request r.written).answer)) e
-    by (Of parts) e = let i = request_read request b e in one_request i.tree (record { good = i.good; written = i.there })
+    by : (p : Option RequestAt) → request_of request ≡ p → RequestIs request
+    by None e = no_request (λ asked r. apart (sym e ∙ (request_written asked r.good request r.written).answer)) e
+    by (Some parts) e = let i = request_read request b e in one_request i.tree (record { good = i.good; written = i.there })
 
-pub bad_request : (request : List ℕ) → IsBytes request → NoRequest request → request_of request ≡ Bad
+pub bad_request : (request : List ℕ) → IsBytes request → NoRequest request → request_of request ≡ None
 bad_request request b h = by (request_is request b)
   where
-    by : RequestIs request → request_of request ≡ Bad
+    by : RequestIs request → request_of request ≡ None
     by (no_request k e) = e
     by (one_request asked r) = let z = h asked r in elim z [ ]

@@ -1,5 +1,6 @@
 -- The walk over a token's caveats where they lie is a walk over its tree's caveats, whatever is added up on the way: one law for the chain
 -- alone (narrow) and for chain and answer together (verify).
+use Rattle.cbor_heads.specs.Defects.{bad}
 use mathlib.Core.Path.{◌≡◌, refl, sym, ◌∙◌}
 use mathlib.Core.List.{List, [], ◌∷◌, ◌++◌, append_assoc}
 use Prim.Native.Nat.{ℕ, ◌+◌, ◌-◌}

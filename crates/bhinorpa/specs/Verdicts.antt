@@ -1,6 +1,8 @@
 -- Meaning. Which check each entry point names, in document 01's order ("Numbers and names"). Each case says that all checks before it held;
 -- of issue and narrow it also says what was returned and what the room holds.
-use Rattle.std.specs.Prelude.{◌≡◌, Bool, true, false, List, [], ◌∷◌, ◌++◌, ℕ, ◌+◌, ◌≤◌, ◌<◌, eqb, length}
+use Rattle.cbor_heads.specs.Defects.{kind_number}
+use Rattle.cbor_heads.specs.declared.defect.Defect.{Defect}
+use Rattle.std.specs.Prelude.{◌≡◌, Bool, true, false, List, [], ◌∷◌, ◌++◌, ℕ, ◌+◌, ◌≤◌, ◌<◌, eqb, length, Err}
 use Rattle.basis.specs.Basis.{pick, over, IsBytes}
 use Rattle.basis.specs.Limits.{text_most, token_most, caveats_most}
 use Rattle.answers.specs.Answers.{number_of}
@@ -9,7 +11,6 @@ use Rattle.answers.specs.declared.Answer.TheVariants.{Allow, TableBad, CtxBad, P
 use Rattle.answers.specs.declared.Answer.TheVariants.{CaveatMethod, CaveatPath, CaveatBytes, CaveatExp, CaveatNbf, CaveatAud, CaveatIp, CaveatRate, CaveatTenant, CaveatAmnesia, CaveatPolicyDigest, CaveatCustomUnknown}
 use Rattle.answers.specs.declared.Answer.TheVariants.{CavCbor, CavBounds, CavUnknown, CavFull, SizeFull, OutShort}
 use Rattle.text_writing.specs.Base64url.{base64url}
-use Rattle.cbor_values.specs.declared.Item.TheVariants.{Bad}
 use Rattle.token_scope.specs.Scopes.{Scope, encode_scope, GoodScope}
 use Rattle.token_scope.specs.Fields.{read_scope}
 use Rattle.token_caveat.specs.Caveats.{Caveat, encode_caveat, GoodCaveat}
@@ -35,15 +36,16 @@ pub data TextDefect (text : List ℕ) (n : ℕ) : Type 0 where
   -- 3: no bytes have this text
   no_base64 : length text ≤ text_most → ((bytes : List ℕ) → IsBytes bytes → text ≡ base64url bytes → ⊥) → n ≡ number_of ParseB64 → TextDefect text n
   -- "reading (4 to 6)": the first defect of the bytes that have this text
-  unreadable : length text ≤ text_most → (bytes : List ℕ) → IsBytes bytes → text ≡ base64url bytes → (at : ℕ) → read_token bytes ≡ Bad n at → TextDefect text n
+  unreadable : length text ≤ text_most → (bytes : List ℕ) → IsBytes bytes → text ≡ base64url bytes → (d : Defect) → read_token bytes ≡ Err d
+      → n ≡ kind_number d.kind → TextDefect text n
 
 -- the first defect of bytes that are not one scope, or not one caveat: of its reading, or that bytes are left over (4)
 pub data ScopeDefect (bytes : List ℕ) (n : ℕ) : Type 0 where
-  scope_unreadable : (at : ℕ) → read_scope bytes 0 ≡ Bad n at → ScopeDefect bytes n
+  scope_unreadable : (d : Defect) → read_scope bytes 0 ≡ Err d → n ≡ kind_number d.kind → ScopeDefect bytes n
   scope_left_over : (scope : Scope) → GoodScope scope → (rest : List ℕ) → bytes ≡ encode_scope scope ++ rest → (rest ≡ [] → ⊥) → n ≡ number_of ParseCbor → ScopeDefect bytes n
 
 pub data CaveatDefect (bytes : List ℕ) (n : ℕ) : Type 0 where
-  caveat_unreadable : (at : ℕ) → read_caveat bytes ≡ Bad n at → CaveatDefect bytes n
+  caveat_unreadable : (d : Defect) → read_caveat bytes ≡ Err d → n ≡ kind_number d.kind → CaveatDefect bytes n
   caveat_left_over : (caveat : Caveat) → GoodCaveat caveat → (rest : List ℕ) → bytes ≡ encode_caveat caveat ++ rest → (rest ≡ [] → ⊥) → n ≡ number_of ParseCbor → CaveatDefect bytes n
 
 -- "Verify: 1, 2, text over 5,462 characters (5), 3, reading (4 to 6), 7, 8, 9, scope method, path, bytes (10 to 12), caveats in token order."

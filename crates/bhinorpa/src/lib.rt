@@ -1,5 +1,5 @@
 // The entry points that the firmware calls. Each takes any bytes and asks nothing of them; what they promise
-// is proved to be what the demands say (specs/Demands.antt).
+// is proved to be what the demands say (specs/Demands.antt). C takes numbers: a result becomes them here.
 #![tactic(auto)]
 
 ghost use Rattle.std.specs.Prelude.{◌≡◌};
@@ -14,7 +14,7 @@ use outcome::Outcome;
 pub fn bhinorpa_verify(table: &[u8], request: &[u8], token: &[u8]) -> u32
     ensures { result ≡ verify_of table.now request.now token.now }
 {
-    verify::verify(table, request, token)
+    verify::verify(table, request, token).into()
 }
 
 // Writes the text of a fresh token, without caveats, into the room.
@@ -27,12 +27,12 @@ pub fn bhinorpa_issue(
 ) -> Outcome
     ensures { Carried (issue_of table.now tid.now kid.now scope.now) room.old result room.new }
 {
-    issue::issue(table, tid, kid, scope, room)
+    issue::issue(table, tid, kid, scope, room).into()
 }
 
 // Writes the text of a token with one caveat more into the room.
 pub fn bhinorpa_narrow(table: &[u8], token: &[u8], caveat: &[u8], room: &mut [u8]) -> Outcome
     ensures { Carried (narrow_of table.now token.now caveat.now) room.old result room.new }
 {
-    narrow::narrow(table, token, caveat, room)
+    narrow::narrow(table, token, caveat, room).into()
 }

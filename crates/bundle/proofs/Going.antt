@@ -9,12 +9,12 @@ use Rattle.basis.specs.Basis.{from_to, between, IsBytes}
 use Rattle.basis.specs.declared.Span.{Span}
 use Rattle.records.specs.Reading.{read_record}
 use Rattle.records.specs.declared.RecordAt.{RecordAt}
-use Rattle.records.specs.declared.RecordParts.TheVariants.{Of, Bad}
+use Rattle.std.specs.Prelude.{Some, None}
 use Rattle.records.proofs.Fields.{IsRecord, record_read}
 use Rattle.cbor_writing.specs.Placing.{Placed}
 use Rattle.cbor_writing.proofs.PlacingLaws.{placed_length, placed_fits, placed_then}
 use Rattle.verify.specs.Verifying.{verify_of}
-use Rattle.bundle.specs.Lines.{line, bad_line, kind_then, lines_from}
+use Rattle.bundle.specs.Lines.{line, bad_line, kind_then, record_then, lines_from}
 use Rattle.bundle.proofs.Putting.{line_short}
 
 -- these lines are done, so many records may follow, and there is room for a line of each
@@ -49,13 +49,13 @@ module _ (s table request : List ℕ) (p : ℕ) where
   at_end h (suc k) = rw (eq-eqb p (length s) h)
 
   module _ (k : ℕ) (h : p ≡ length s → ⊥) where
-    at_cut : read_record s p ≡ Bad → lines_from (suc k) s table request p ≡ bad_line
-    unfolding lines_from
+    at_cut : read_record s p ≡ None → lines_from (suc k) s table request p ≡ bad_line
+    unfolding lines_from record_then
     at_cut e = rw (ne_eqb p (length s) h, e)
 
-    at_record : {found : RecordAt} → read_record s p ≡ Of found
+    at_record : {found : RecordAt} → read_record s p ≡ Some found
         → lines_from (suc k) s table request p ≡ kind_then (lines_from k s) s table request found
-    unfolding lines_from
+    unfolding lines_from record_then
     at_record e = rw (ne_eqb p (length s) h, e)
 
 module _ {s entry room : List ℕ} {p n : ℕ} {t q : Span} (w : Going s entry room p n t q) where
@@ -89,11 +89,11 @@ module _ {s entry room : List ℕ} {p n : ℕ} {t q : Span} (w : Going s entry r
         → Placed (lines_from 16384 s [] [] 0) entry 0 r f
     stops {r} {f} e b = subst (λ (x : List ℕ). Placed x entry 0 r f) e (behind bad_line (omega arith) b)
 
-    pub cut : {r : ℕ} {f : List ℕ} → read_record s p ≡ Bad → Placed bad_line room n r f → Placed (lines_from 16384 s [] [] 0) entry 0 r f
+    pub cut : {r : ℕ} {f : List ℕ} → read_record s p ≡ None → Placed bad_line room n r f → Placed (lines_from 16384 s [] [] 0) entry 0 r f
     cut e b =
         stops (ap (λ (x : List ℕ). w.done ++ x) (sym (at_cut s (between s t) (between s q) p (w.left - 1) h e)) ∙ one) b
 
-    module _ {found : RecordAt} (e : read_record s p ≡ Of found) where
+    module _ {found : RecordAt} (e : read_record s p ≡ Some found) where
       turned : w.done ++ kind_then (lines_from (w.left - 1) s) s (between s t) (between s q) found ≡ lines_from 16384 s [] [] 0
       turned =
           ap (λ (x : List ℕ). w.done ++ x) (sym (at_record s (between s t) (between s q) p (w.left - 1) h e)) ∙ one

@@ -10,8 +10,7 @@ use Rattle.basis.specs.Basis.{pick, ascii}
 use Rattle.basis.proofs.All.{all, all_at}
 use Rattle.answers.specs.Answers.{number_of, name_of, answer_of}
 use Rattle.answers.specs.declared.Answer.{Answer}
-use Rattle.answers.specs.declared.Listed.{Listed}
-use Rattle.answers.specs.declared.Listed.TheVariants.{Of, Free}
+use Rattle.std.specs.Prelude.{Option, Some, None}
 use Rattle.answers.proofs.Distinct.{listed_number}
 use Rattle.answers.proofs.Named.{name_long}
 use Rattle.verify.specs.Verifying.{verify_of}
@@ -21,30 +20,30 @@ use Rattle.bundle.specs.Lines.{name_in, line_words}
 -- an answer has this number, and the words for the number are that answer's
 pub record Named (n : ℕ) : Type 0 where
   pub answer : Answer
-  pub listed : answer_of n ≡ Of answer
+  pub listed : answer_of n ≡ Some answer
   pub numbered : number_of answer ≡ n
   pub words : line_words n ≡ pick (eqb n 0) (ascii "allow") (ascii "deny " ++ name_of answer)
 
-is_of : Listed → Bool
-is_of (Of a) = true
-is_of Free = false
+is_of : Option Answer → Bool
+is_of (Some a) = true
+is_of None = false
 
 named_by : (n : ℕ) → is_of (answer_of n) ≡ true → Named n
 unfolding line_words is_of
 named_by n = by (answer_of n) refl
   where
-    by : (x : Listed) → answer_of n ≡ x → is_of x ≡ true → Named n
-    by (Of a) e t =
+    by : (x : Option Answer) → answer_of n ≡ x → is_of x ≡ true → Named n
+    by (Some a) e t =
         record {
           answer = a;
           listed = e;
           numbered = listed_number n e;
-          words = ap (λ (x : Listed). pick (eqb n 0) (ascii "allow") (ascii "deny " ++ name_in x)) e;
+          words = ap (λ (x : Option Answer). pick (eqb n 0) (ascii "allow") (ascii "deny " ++ name_in x)) e;
         }
-    by Free e t = let z : ◌≡◌ {A = ℕ} 0 1 = cc in let z : ⊥ = omega arith in elim z [ ]
+    by None e t = let z : ◌≡◌ {A = ℕ} 0 1 = cc in let z : ⊥ = omega arith in elim z [ ]
 
 -- what a line would say of a number that no answer has is no answer's name
-pub unnamed : (a : Answer) → name_of a ≡ name_in Free → ⊥
+pub unnamed : (a : Answer) → name_of a ≡ name_in None → ⊥
 unnamed a e = omega (arith, name_long a, ap length e)
 
 -- those from 0 to 21, each tried

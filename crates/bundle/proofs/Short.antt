@@ -6,24 +6,24 @@ use lib.Dec.{eqb, ltb}
 use lib.ListN.{length, length-append}
 use Rattle.basis.specs.Basis.{between}
 use Rattle.basis.proofs.Picks.{either}
-use Rattle.records.specs.Reading.{after_record, read_record}
-use Rattle.records.specs.declared.RecordParts.{RecordParts}
-use Rattle.records.specs.declared.RecordParts.TheVariants.{Of, Bad}
+use Rattle.records.specs.Reading.{read_record}
+use Rattle.records.specs.declared.RecordAt.{RecordAt}
+use Rattle.std.specs.Prelude.{Option, Some, None}
 use Rattle.verify.specs.Verifying.{verify_of}
-use Rattle.bundle.specs.Lines.{line, bad_line, kind_then, lines_from, lines_of}
+use Rattle.bundle.specs.Lines.{line, kind_then, record_then, lines_from, lines_of}
 use Rattle.bundle.proofs.Putting.{line_short}
 
 -- a line of at most 27 bytes for each record
 from_short : (k : ℕ) (s table request : List ℕ) (at : ℕ) → length (lines_from k s table request at) ≤ 27 * k
-unfolding lines_from kind_then
+unfolding lines_from record_then kind_then
 from_short zero s table request at = omega arith
 from_short (suc k) s table request at =
     either (λ (x : List ℕ). length x ≤ 27 * suc k) (eqb at (length s)) (omega arith) (by (read_record s at) (from_short k s))
   where
-    by : (r : RecordParts) → ((t q : List ℕ) (i : ℕ) → length (lines_from k s t q i) ≤ 27 * k)
-        → length (after_record bad_line (kind_then (lines_from k s) s table request) r) ≤ 27 * suc k
-    by Bad h = omega arith
-    by (Of found) h =
+    by : (r : Option RecordAt) → ((t q : List ℕ) (i : ℕ) → length (lines_from k s t q i) ≤ 27 * k)
+        → length (record_then (lines_from k s) s table request r) ≤ 27 * suc k
+    by None h = omega arith
+    by (Some found) h =
         let body = between s found.body in
         let to = found.body.to in
         let l = line (verify_of table request body) in

@@ -3,49 +3,36 @@
 #![tactic(auto)]
 
 ghost use Rattle.std.specs.Prelude.{[], ◌+◌, ◌≤◌, length};
-ghost use Rattle.answers.specs.Answers.{answer_of};
+ghost use Rattle.answers.specs.Answers.{number_of};
 ghost use Rattle.cbor_writing.specs.Placing.{Placed};
 ghost use Rattle.basis.specs.Limits.{bundle_most};
-ghost use Rattle.bundle.specs.Lines.{name_in, line_words, line, lines_from, records_most, enough, LinesWritten};
+ghost use Rattle.bundle.specs.Lines.{line_words, line, lines_from, records_most, enough, LinesWritten};
 
-use answers::Listed;
+use answers::Answer;
 use basis::{Span, limits};
-use records::RecordParts;
 
 // Room for the lines of any bundle: 16,384 of at most 27 bytes.
 pub const ENOUGH: usize = 442368;
 
-// The answer's name; for a number that no answer has "?", which verify never gives.
-fn put_name(room: &mut [u8], at: usize, n: u32) -> usize
-    requires { at + length (name_in (answer_of n)) ≤ length room.old }
-    ensures { Placed (name_in (answer_of n)) room.old at result room.new }
+// "allow", or "deny " and the name.
+fn put_words(room: &mut [u8], at: usize, answer: Answer) -> usize
+    requires { at + length (line_words (number_of answer)) ≤ length room.old }
+    ensures { Placed (line_words (number_of answer)) room.old at result room.new }
 {
-    match answers::answer_of(n) {
-        Listed::Free => cbor_writing::put_at(room, at, b"?"),
-        Listed::Of(answer) => {
-            let k = answers::name(answer, &mut room[at..]);
-            at + k
+    match answer {
+        Answer::Allow => cbor_writing::put_at(room, at, b"allow"),
+        _ => {
+            let p = cbor_writing::put_at(room, at, b"deny ");
+            cbor_writing::put_at(room, p, answer.name().as_bytes())
         }
     }
 }
 
-// "allow", or "deny " and the name.
-fn put_words(room: &mut [u8], at: usize, n: u32) -> usize
-    requires { at + length (line_words n) ≤ length room.old }
-    ensures { Placed (line_words n) room.old at result room.new }
+fn put_line(room: &mut [u8], at: usize, answer: Answer) -> usize
+    requires { at + length (line (number_of answer)) ≤ length room.old }
+    ensures { Placed (line (number_of answer)) room.old at result room.new }
 {
-    if n == 0 {
-        return cbor_writing::put_at(room, at, b"allow");
-    }
-    let p = cbor_writing::put_at(room, at, b"deny ");
-    put_name(room, p, n)
-}
-
-fn put_line(room: &mut [u8], at: usize, n: u32) -> usize
-    requires { at + length (line n) ≤ length room.old }
-    ensures { Placed (line n) room.old at result room.new }
-{
-    let p = put_words(room, at, n);
+    let p = put_words(room, at, answer);
     cbor_writing::put_at(room, p, b"\n")
 }
 
@@ -60,8 +47,8 @@ fn walk(input: &[u8], room: &mut [u8]) -> usize
     let mut request = Span { from: 0, to: 0 };
     while p != input.len() {
         match records::record_at(input, p) {
-            RecordParts::Bad => return cbor_writing::put_at(room, n, b"bundle.bad\n"),
-            RecordParts::Of { record } => {
+            None => return cbor_writing::put_at(room, n, b"bundle.bad\n"),
+            Some(record) => {
                 let kind = record.kind;
                 let body = record.body;
                 if kind == limits::TABLE_KIND {
@@ -85,16 +72,16 @@ fn walk(input: &[u8], room: &mut [u8]) -> usize
     n
 }
 
-// Writes the lines at the front of the room and says how long they are; in a room that is not enough it
-// writes nothing and says 0.
-pub fn judge_bundle(input: &[u8], room: &mut [u8]) -> usize
+// Writes the lines at the front of the room and says how long they are; in a room that is not enough it writes
+// nothing.
+pub fn judge_bundle(input: &[u8], room: &mut [u8]) -> Option<usize>
     ensures { LinesWritten input.now room.old result room.new }
 {
     if room.len() < ENOUGH {
-        return 0;
+        return None;
     }
     if limits::BUNDLE_MOST < input.len() {
-        return cbor_writing::put_at(room, 0, b"bundle.bad\n");
+        return Some(cbor_writing::put_at(room, 0, b"bundle.bad\n"));
     }
-    walk(input, room)
+    Some(walk(input, room))
 }

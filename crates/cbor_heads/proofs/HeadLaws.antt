@@ -8,16 +8,26 @@ use native.Mathlib.Numerals.{add-one}
 use native.Mathlib.Omega.{arith}
 use borrow.Author.Tests.{lt-ltb, le-ltb, ltb-true, ltb-false, eqb-true}
 use Rattle.basis.specs.Basis.{pick, IsBytes}
+use Rattle.basis.proofs.Pairs.{ok_same}
 use lib.ListN.{length, take, drop, get_or, length-append, length-drop, take-append-drop}
 use lib.Seq.{get_or-drop, drop-append_seam, take_at, take-suc, take_all, length-take-le}
 use lib.Dec.{ltb, eqb}
 use lib.Arith.{digits_lt, digits_div, digits_mod}
-use Rattle.cbor_heads.specs.declared.Head.TheVariants.{Got, Bad}
+use Rattle.cbor_heads.specs.declared.defect.Kind.TheVariants.{Cbor}
+use Rattle.cbor_heads.specs.Defects.{Reading, bad}
+use Rattle.cbor_heads.specs.declared.Head.{Head}
+use Rattle.std.specs.Prelude.{Ok}
 use Rattle.cbor_heads.specs.declared.Width.{Width}
 use Rattle.cbor_heads.specs.declared.Width.TheVariants.{Here, Follow, Refused}
 use Rattle.cbor_heads.specs.Heads.{big, head}
-use Rattle.cbor_heads.specs.Reading.{big_of, number_from, width_of, head_by, head_at, read_head}
+use Rattle.cbor_heads.specs.Reading.{got, big_of, number_from, width_of, head_by, head_at, read_head}
 use Rattle.cbor_heads.proofs.Numbers.{be_snoc}
+
+-- two heads that are read the same are the same
+pub same_head : {a b c x y z : ℕ} → ◌≡◌ {A = Reading Head} (Ok (got a b c)) (Ok (got x y z)) → (a ≡ x) × (b ≡ y) × (c ≡ z)
+same_head {a} {b} {c} {x} {y} {z} e =
+    let p = ok_same e in
+    (ap (λ (h : Head). h.major) p, ap (λ (h : Head). h.value) p, ap (λ (h : Head). h.next) p)
 
 pub bytes_length : (k n : ℕ) → length (big k n) ≡ k
 unfolding big
@@ -119,17 +129,17 @@ unfolding head_at
 first at major low t h = rw (digits_div major h, digits_mod major h)
 
 -- reading what was written, with anything after it
-pub read_written : (at major n : ℕ) (t : List ℕ) → n < 2 ^ 64 → head_at at (head major n ++ t) ≡ Got major n (at + length (head major n))
+pub read_written : (at major n : ℕ) (t : List ℕ) → n < 2 ^ 64 → head_at at (head major n ++ t) ≡ Ok (got major n (at + length (head major n)))
 unfolding head_by
 read_written at major n t h = by (size n h)
   where
-    by : Size n → head_at at (head major n ++ t) ≡ Got major n (at + length (head major n))
+    by : Size n → head_at at (head major n ++ t) ≡ Ok (got major n (at + length (head major n)))
     by (small l) = rw (small_writes major n l, first at major n t (omega arith), small_width n l)
     by (long {low} {k} {least} f l g) =
         let room : k ≤ length (big k n ++ t) = simp (length-append, bytes_length) (omega arith) in
         let v : big_of (take k (big k n ++ t)) ≡ n = ap big_of (take_at (big k n) t k (bytes_length k n)) ∙ be_bytes k n g in
         rw (form_writes major n f l g, first at major low (big k n ++ t) (form_low f), form_width f, le-ltb _ _ room, v, le-ltb _ _ l, bytes_length)
-        (ap (Got major n) (omega arith))
+        (ap (λ (next : ℕ). Ok (got major n next)) (omega arith))
 
 -- what is read well is what writing gives, and the next place is past it
 pub record Written (at : ℕ) (s : List ℕ) (major n next : ℕ) : Type 0 where
@@ -164,23 +174,19 @@ here_low low = by (ltb low 24) refl (eqb low 24) (eqb low 25) (eqb low 26) (eqb 
     by false q false false false false p = let z : ◌≡◌ {A = ℕ} 0 1 = cc in omega arith
 
 module _ (at b : ℕ) (t : List ℕ) (bs : IsBytes t) {major n next : ℕ} where
-  by_here : width_of (b % 32) ≡ Here → b % 32 < 24 → head_by at (b / 32) (b % 32) Here t ≡ Got major n next → Written at (b ∷ t) major n next
+  by_here : width_of (b % 32) ≡ Here → b % 32 < 24 → head_by at (b / 32) (b % 32) Here t ≡ Ok (got major n next) → Written at (b ∷ t) major n next
   unfolding head_by
   by_here w l p =
-      let m : b / 32 ≡ major = cc in
-      let v : b % 32 ≡ n = cc in
-      let x : at + 1 ≡ next = cc in
+      let (m, v, x) = same_head p in
       let e : head major n ≡ b ∷ [] = rw (← m, ← v, small_writes (b / 32) (b % 32) l, div-add-mod' b 32) in
       record { front = rw e; past = rw e (sym x); small = omega (arith, l, v) }
 
   by_follow : {k least : ℕ} → Form (b % 32) k least → (y z : Bool) → ltb (length t) k ≡ y → ltb (big_of (take k t)) least ≡ z
-      → pick y (Bad at) (pick z (Bad at) (Got (b / 32) (big_of (take k t)) (at + 1 + k))) ≡ Got major n next → Written at (b ∷ t) major n next
+      → pick y (bad Cbor at) (pick z (bad Cbor at) (Ok (got (b / 32) (big_of (take k t)) (at + 1 + k)))) ≡ Ok (got major n next) → Written at (b ∷ t) major n next
   by_follow f true z q r p = let z : ◌≡◌ {A = ℕ} 0 1 = cc in let z : ⊥ = omega arith in elim z [ ]
   by_follow f false true q r p = let z : ◌≡◌ {A = ℕ} 0 1 = cc in let z : ⊥ = omega arith in elim z [ ]
   by_follow {k} f false false q r p =
-      let m : b / 32 ≡ major = cc in
-      let v : big_of (take k t) ≡ n = cc in
-      let x : at + 1 + k ≡ next = cc in
+      let (m, v, x) = same_head p in
       let room : k ≤ length t = ltb-false _ _ q in
       let back = bytes_be k (take k t) (length-take-le k t room) (bytes_take k t bs) in
       let e : head major n ≡ b ∷ take k t =
@@ -189,35 +195,35 @@ module _ (at b : ℕ) (t : List ℕ) (bs : IsBytes t) {major n next : ℕ} where
       record { front = rw (l, e) (ap (λ (w : List ℕ). b ∷ w) (take-append-drop k t)); past = rw l (omega arith); small = rw (← v) (form_small f back.0) }
 
 -- for byte lists
-pub written_read : (at : ℕ) (s : List ℕ) → IsBytes s → {major n next : ℕ} → head_at at s ≡ Got major n next → Written at s major n next
+pub written_read : (at : ℕ) (s : List ℕ) → IsBytes s → {major n next : ℕ} → head_at at s ≡ Ok (got major n next) → Written at s major n next
 unfolding head_at head_by
 written_read at [] bs p = let z : ◌≡◌ {A = ℕ} 0 1 = cc in let z : ⊥ = omega arith in elim z [ ]
 written_read at (b ∷ t) bs {major} {n} {next} p = by (width_of (b % 32)) refl p
   where
-    by : (w : Width) → width_of (b % 32) ≡ w → head_by at (b / 32) (b % 32) w t ≡ Got major n next → Written at (b ∷ t) major n next
+    by : (w : Width) → width_of (b % 32) ≡ w → head_by at (b / 32) (b % 32) w t ≡ Ok (got major n next) → Written at (b ∷ t) major n next
     by Here e p = by_here at b t (λ i. bs (suc i)) e (here_low (b % 32) e) p
     by Refused e p = let z : ◌≡◌ {A = ℕ} 0 1 = cc in let z : ⊥ = omega arith in elim z [ ]
     by (Follow k least) e p = by_follow at b t (λ i. bs (suc i)) (form_of (b % 32) e) (ltb (length t) k) (ltb (big_of (take k t)) least) refl refl p
 
 -- the next place is past this one, and inside
-pub next_inside : (at : ℕ) (s : List ℕ) {major n next : ℕ} → head_at at s ≡ Got major n next → (at < next) × (next ≤ at + length s)
+pub next_inside : (at : ℕ) (s : List ℕ) {major n next : ℕ} → head_at at s ≡ Ok (got major n next) → (at < next) × (next ≤ at + length s)
 unfolding head_at head_by
 next_inside at [] p = let z : ◌≡◌ {A = ℕ} 0 1 = cc in let z : ⊥ = omega arith in elim z [ ]
 next_inside at (b ∷ t) {major} {n} {next} p = by (width_of (b % 32)) p
   where
-    pass : (k : ℕ) (y z : Bool) → ltb (length t) k ≡ y → (v : ℕ) → pick y (Bad at) (pick z (Bad at) (Got (b / 32) v (at + 1 + k))) ≡ Got major n next
+    pass : (k : ℕ) (y z : Bool) → ltb (length t) k ≡ y → (v : ℕ) → pick y (bad Cbor at) (pick z (bad Cbor at) (Ok (got (b / 32) v (at + 1 + k)))) ≡ Ok (got major n next)
         → (at < next) × (next ≤ at + length (b ∷ t))
     pass k true z q v p = let z : ◌≡◌ {A = ℕ} 0 1 = cc in let z : ⊥ = omega arith in elim z [ ]
     pass k false true q v p = let z : ◌≡◌ {A = ℕ} 0 1 = cc in let z : ⊥ = omega arith in elim z [ ]
-    pass k false false q v p = let x : at + 1 + k ≡ next = cc in let r : k ≤ length t = ltb-false _ _ q in (omega arith, omega arith)
+    pass k false false q v p = let x = (same_head p).2 in let r : k ≤ length t = ltb-false _ _ q in (omega arith, omega arith)
 
-    by : (w : Width) → head_by at (b / 32) (b % 32) w t ≡ Got major n next → (at < next) × (next ≤ at + length (b ∷ t))
-    by Here p = let x : at + 1 ≡ next = cc in (omega arith, omega arith)
+    by : (w : Width) → head_by at (b / 32) (b % 32) w t ≡ Ok (got major n next) → (at < next) × (next ≤ at + length (b ∷ t))
+    by Here p = let x = (same_head p).2 in (omega arith, omega arith)
     by Refused p = let z : ◌≡◌ {A = ℕ} 0 1 = cc in let z : ⊥ = omega arith in elim z [ ]
     by (Follow k least) p = pass k (ltb (length t) k) (ltb (big_of (take k t)) least) refl (big_of (take k t)) p
 
 -- the same of a place in a slice
-pub next_in : (s : List ℕ) (at : ℕ) {major n next : ℕ} → read_head s at ≡ Got major n next → (at < next) × (next ≤ length s)
+pub next_in : (s : List ℕ) (at : ℕ) {major n next : ℕ} → read_head s at ≡ Ok (got major n next) → (at < next) × (next ≤ length s)
 next_in s at p =
     let g = next_inside at (drop at s) p in
     (g.0, omega (arith, length-drop at s))
@@ -225,8 +231,8 @@ next_in s at p =
 -- a head and what stands behind it settle each other
 pub head_unique : (m n k l : ℕ) (x y : List ℕ) → n < 2 ^ 64 → l < 2 ^ 64 → head m n ++ x ≡ head k l ++ y → (m ≡ k) × (n ≡ l) × (x ≡ y)
 head_unique m n k l x y h g e =
-    let r : Got m n (0 + length (head m n)) ≡ Got k l (0 + length (head k l)) = sym (read_written 0 m n x h) ∙ ap (head_at 0) e ∙ read_written 0 k l y g in
-    let p : m ≡ k = cc in
-    let q : n ≡ l = cc in
+    let r : ◌≡◌ {A = Reading Head} (Ok (got m n (0 + length (head m n)))) (Ok (got k l (0 + length (head k l)))) = sym (read_written 0 m n x h) ∙ ap (head_at 0) e ∙ read_written 0 k l y g in
+    let p = (same_head r).0 in
+    let q = (same_head r).1 in
     let t = ap (drop (length (head m n))) e in
     (p, q, sym (drop-append_seam (head m n) x) ∙ t ∙ rw (p, q) (drop-append_seam (head k l) y))

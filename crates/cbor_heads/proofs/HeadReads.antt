@@ -10,11 +10,13 @@ use native.Mathlib.Omega.{arith}
 use Rattle.basis.specs.Basis.{pick}
 use lib.ListN.{length, take, drop, get_or, length-drop, drop_of_length-le}
 use lib.Seq.{drop-cons}
-use Rattle.cbor_heads.specs.declared.Head.TheVariants.{Got, Bad}
+use Rattle.cbor_heads.specs.declared.defect.Kind.TheVariants.{Cbor}
+use Rattle.cbor_heads.specs.Defects.{bad}
+use Rattle.std.specs.Prelude.{Ok}
 use Rattle.cbor_heads.specs.declared.Width.TheVariants.{Here, Follow, Refused}
-use Rattle.cbor_heads.specs.Reading.{big_of, head_by, head_at, width_of, read_head}
+use Rattle.cbor_heads.specs.Reading.{got, big_of, head_by, head_at, width_of, read_head}
 
-pub at_end : (s : List ℕ) (at : ℕ) → length s ≤ at → Bad at ≡ read_head s at
+pub at_end : (s : List ℕ) (at : ℕ) → length s ≤ at → bad Cbor at ≡ read_head s at
 unfolding head_at
 at_end s at h = rw (drop_of_length-le s h)
 
@@ -24,11 +26,11 @@ unfolding head_at
 at_byte s at h = rw (add-one, drop-cons s at 0)
 
 pub at_here : (s : List ℕ) (at : ℕ) → at < length s → width_of (get_or s at 0 % 32) ≡ Here
-    → Got (get_or s at 0 / 32) (get_or s at 0 % 32) (at + 1) ≡ read_head s at
+    → Ok (got (get_or s at 0 / 32) (get_or s at 0 % 32) (at + 1)) ≡ read_head s at
 unfolding head_by
 at_here s at h e = rw e at (at_byte s at h)
 
-pub at_refused : (s : List ℕ) (at : ℕ) → at < length s → width_of (get_or s at 0 % 32) ≡ Refused → Bad at ≡ read_head s at
+pub at_refused : (s : List ℕ) (at : ℕ) → at < length s → width_of (get_or s at 0 % 32) ≡ Refused → bad Cbor at ≡ read_head s at
 unfolding head_by
 at_refused s at h e = rw e at (at_byte s at h)
 
@@ -36,16 +38,16 @@ module _ (s : List ℕ) (at : ℕ) {n least : ℕ} (h : at < length s) (e : widt
   follow : head_by at (get_or s at 0 / 32) (get_or s at 0 % 32) (Follow n least) (drop (at + 1) s) ≡ read_head s at
   follow = rw e at (at_byte s at h)
 
-  pub at_short : length s - (at + 1) < n → Bad at ≡ read_head s at
+  pub at_short : length s - (at + 1) < n → bad Cbor at ≡ read_head s at
   unfolding head_by
   at_short g = rw (length-drop, lt-ltb _ _ g) at follow
 
-  pub at_small : n ≤ length s - (at + 1) → big_of (take n (drop (at + 1) s)) < least → Bad at ≡ read_head s at
+  pub at_small : n ≤ length s - (at + 1) → big_of (take n (drop (at + 1) s)) < least → bad Cbor at ≡ read_head s at
   unfolding head_by
   at_small g l = rw (length-drop, le-ltb _ _ g, lt-ltb _ _ l) at follow
 
   pub at_value : n ≤ length s - (at + 1) → least ≤ big_of (take n (drop (at + 1) s))
-      → Got (get_or s at 0 / 32) (big_of (take n (drop (at + 1) s))) (at + 1 + n) ≡ read_head s at
+      → Ok (got (get_or s at 0 / 32) (big_of (take n (drop (at + 1) s))) (at + 1 + n)) ≡ read_head s at
   unfolding head_by
   at_value g l = rw (length-drop, le-ltb _ _ g, le-ltb _ _ l) at follow
 

@@ -4,3 +4,4 @@ pub mod HeadLaws
 pub mod HeadLengths
 pub mod CountLaws
 pub mod OneAnswer
+pub mod DefectKinds

@@ -1,3 +1,4 @@
+pub mod Defects
 pub mod Majors
 pub mod Counts
 pub mod Heads

@@ -1,5 +1,4 @@
--- Meaning. The major types (RFC 8949, 3.1) and the simple values (3.3) that are read or written, and the three numbers that a defect of what
--- is read has (document 01, "Numbers and names").
+-- Meaning. The major types (RFC 8949, 3.1) and the simple values (3.3) that are read or written.
 use Rattle.std.specs.Prelude.{ℕ}
 
 abbrev pub unsigned : ℕ
@@ -32,13 +31,3 @@ simple_true = 21
 
 abbrev pub simple_null : ℕ
 simple_null = 22
-
--- the defects
-abbrev pub parse_cbor : ℕ
-parse_cbor = 4
-
-abbrev pub parse_bounds : ℕ
-parse_bounds = 5
-
-abbrev pub unknown_field : ℕ
-unknown_field = 6

@@ -1,7 +1,43 @@
-// The three numbers that a defect of what is read has (document 01, "Numbers and names").
+// What may be wrong with what is read: one of three kinds (document 01, "Numbers and names"), and the place of the item
+// at fault. A reading gives what it read, or the first defect.
 
-pub const CBOR: u32 = 4;
+ghost use Rattle.std.specs.Prelude.{◌≡◌};
+ghost use Rattle.cbor_heads.specs.Defects.{kind_answer};
 
-pub const BOUNDS: u32 = 5;
+use answers::Answer;
 
-pub const UNKNOWN: u32 = 6;
+#[derive(Clone, Copy, Debug, PartialEq, Eq)]
+pub enum Kind {
+    Cbor,
+    Bounds,
+    Unknown,
+}
+
+#[derive(Clone, Copy, Debug, PartialEq, Eq)]
+pub struct Defect {
+    pub kind: Kind,
+    pub at: usize,
+}
+
+pub type Reading<T> = Result<T, Defect>;
+
+impl From<Kind> for Answer {
+    ghost from_gives = { λ kind answer. answer ≡ kind_answer kind };
+
+    fn from(kind: Kind) -> Answer {
+        match kind {
+            Kind::Cbor => Answer::ParseCbor,
+            Kind::Bounds => Answer::ParseBounds,
+            Kind::Unknown => Answer::SchemaUnknownField,
+        }
+    }
+}
+
+// The place is not told by document 01's answers.
+impl From<Defect> for Answer {
+    ghost from_gives = { λ defect answer. answer ≡ kind_answer defect.kind };
+
+    fn from(defect: Defect) -> Answer {
+        defect.kind.into()
+    }
+}

@@ -9,6 +9,8 @@ ghost use Rattle.cbor_heads.specs.Counts.{read_count, map_with, array_up_to, num
 pub mod defect;
 pub mod major;
 
+use defect::{Defect, Kind, Reading};
+
 // How many bytes follow a head's first one, and the least number that they may hold.
 #[derive(Clone, Copy)]
 pub enum Width {
@@ -17,19 +19,15 @@ pub enum Width {
     Refused,
 }
 
+// A head as it is read, and the place behind it.
 #[derive(Clone, Copy)]
-pub enum Head {
-    Got { major: u8, value: u64, next: usize },
-    Bad { at: usize },
+pub struct Head {
+    pub major: u8,
+    pub value: u64,
+    pub next: usize,
 }
 
-// A number or a count, or what is wrong with it: document 01's number and the place.
-#[derive(Clone, Copy)]
-pub enum Count {
-    Of { n: u64, next: usize },
-    Bad { kind: u32, at: usize },
-}
-
+#[tactic(auto, unfolding(crate::specs::Reading::width_of))]
 pub fn width_of(low: u8) -> Width
     ensures { result ≡ width_of low }
 {
@@ -52,97 +50,108 @@ fn number(s: &[u8]) -> u64
     ensures { result ≡ big_of s.now }
 {
     let mut v: u64 = 0;
-    let mut i: usize = 0;
-    while i < s.len() {
-        v = v * 256 + (s[i] as u64);
-        i += 1;
+    for &b in s {
+        v = v * 256 + u64::from(b);
     }
     v
 }
 
-pub fn read_head(s: &[u8], at: usize) -> Head
+pub fn read_head(s: &[u8], at: usize) -> Reading<Head>
     ensures { result ≡ read_head s.now at }
 {
     if s.len() <= at {
-        return Head::Bad { at };
+        return Err(Defect {
+            kind: Kind::Cbor,
+            at,
+        });
     }
-    let b = s[at];
-    let major = b / 32;
-    let low = b % 32;
+    let major = s[at] / 32;
+    let low = s[at] % 32;
     let from = at + 1;
     match width_of(low) {
-        Width::Here => Head::Got {
+        Width::Here => Ok(Head {
             major,
-            value: low as u64,
+            value: u64::from(low),
             next: from,
-        },
-        Width::Refused => Head::Bad { at },
+        }),
+        Width::Refused => Err(Defect {
+            kind: Kind::Cbor,
+            at,
+        }),
         Width::Follow { n, least } => {
             if s.len() - from < n {
-                return Head::Bad { at };
+                return Err(Defect {
+                    kind: Kind::Cbor,
+                    at,
+                });
             }
-            let v = number(&s[from..from + n]);
-            if v < least {
-                return Head::Bad { at };
+            let value = number(&s[from..from + n]);
+            if value < least {
+                return Err(Defect {
+                    kind: Kind::Cbor,
+                    at,
+                });
             }
-            Head::Got {
+            Ok(Head {
                 major,
-                value: v,
+                value,
                 next: from + n,
-            }
+            })
         }
     }
 }
 
-// A number, or the count of an array or a map; `above` is the number of the defect where it is too large.
-pub fn read_count(s: &[u8], at: usize, major: u8, least: u64, most: u64, above: u32) -> Count
+// A number, or the count of an array or a map, and the place behind its head; `above` is the kind of the defect where it
+// is too large.
+#[tactic(auto, unfolding(crate::specs::Counts::count_by))]
+pub fn read_count(
+    s: &[u8],
+    at: usize,
+    major: u8,
+    least: u64,
+    most: u64,
+    above: Kind,
+) -> Reading<(u64, usize)>
     ensures { result ≡ read_count s.now at major least most above }
 {
-    match read_head(s, at) {
-        Head::Bad { at: a } => Count::Bad {
-            kind: defect::CBOR,
-            at: a,
-        },
-        Head::Got {
-            major: m,
-            value: n,
-            next,
-        } => {
-            if m != major {
-                return Count::Bad {
-                    kind: defect::CBOR,
-                    at,
-                };
-            }
-            if n < least {
-                return Count::Bad {
-                    kind: defect::CBOR,
-                    at,
-                };
-            }
-            if most < n {
-                return Count::Bad { kind: above, at };
-            }
-            Count::Of { n, next }
-        }
+    let Head {
+        major: m,
+        value: n,
+        next,
+    } = read_head(s, at)?;
+    if m != major {
+        return Err(Defect {
+            kind: Kind::Cbor,
+            at,
+        });
     }
+    if n < least {
+        return Err(Defect {
+            kind: Kind::Cbor,
+            at,
+        });
+    }
+    if most < n {
+        return Err(Defect { kind: above, at });
+    }
+    Ok((n, next))
 }
 
 // The count of a map that requires so many keys and knows so many.
-pub fn map_with(s: &[u8], at: usize, required: u64, known: u64) -> Count
+pub fn map_with(s: &[u8], at: usize, required: u64, known: u64) -> Reading<(u64, usize)>
     ensures { result ≡ map_with required known s.now at }
 {
-    read_count(s, at, major::MAP, required, known, defect::UNKNOWN)
+    read_count(s, at, major::MAP, required, known, Kind::Unknown)
 }
 
-pub fn array_up_to(s: &[u8], at: usize, most: u64) -> Count
+pub fn array_up_to(s: &[u8], at: usize, most: u64) -> Reading<(u64, usize)>
     ensures { result ≡ array_up_to most s.now at }
 {
-    read_count(s, at, major::ARRAY, 0, most, defect::BOUNDS)
+    read_count(s, at, major::ARRAY, 0, most, Kind::Bounds)
 }
 
-pub fn number_up_to(s: &[u8], at: usize, most: u64) -> Count
+pub fn number_up_to(s: &[u8], at: usize, most: u64) -> Reading<(u64, usize)>
     ensures { result ≡ number_up_to most s.now at }
 {
-    read_count(s, at, major::UNSIGNED, 0, most, defect::BOUNDS)
+    read_count(s, at, major::UNSIGNED, 0, most, Kind::Bounds)
 }

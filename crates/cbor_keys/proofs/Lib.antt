@@ -1,9 +1,9 @@
+pub mod Named
 pub mod KeyLaws
 pub mod TextLaws
 pub mod StepLaws
 pub mod FieldLaws
 pub mod OneAnswer
 pub mod Inside
-pub mod DefectKinds
 pub mod Indexes
 pub mod MapLaws

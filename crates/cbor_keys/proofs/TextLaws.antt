@@ -1,4 +1,5 @@
 -- Texts within limits both ways: one that was written reads back, and what reads well was written so.
+use Rattle.std.specs.Prelude.{Ok}
 use mathlib.Core.Path.{◌≡◌, refl, sym, ap, ◌∙◌}
 use mathlib.Core.List.{List, ◌++◌, append_assoc}
 use Prim.Native.Nat.{ℕ, ◌+◌, ◌-◌, ◌^◌, ◌<◌}
@@ -11,18 +12,17 @@ use Rattle.basis.proofs.Parts.{ends}
 use Rattle.cbor_heads.specs.Heads.{head}
 use Rattle.cbor_strings.specs.Reading.{read_string}
 use Rattle.cbor_strings.specs.declared.Class.{Class}
-use Rattle.cbor_strings.specs.declared.Content.TheVariants.{Of}
 use Rattle.cbor_heads.proofs.HeadLaws.{head_unique}
 use Rattle.cbor_strings.proofs.RunReads.{found, held}
 use Rattle.cbor_strings.proofs.StringLaws.{read_string_written, content_there, written_run}
 use Rattle.cbor_keys.specs.Maps.{text, GoodText}
 
 pub text_written : (class : Class) (low high : ℕ) (m : List ℕ) → GoodText class low high m → high < 2 ^ 64 → (s rest : List ℕ) (at : ℕ) → drop at s ≡ text m ++ rest
-    → read_string s at class low high ≡ Of (from_to (at + length (head 3 (length m))) (at + length (text m)))
+    → read_string s at class low high ≡ Ok (from_to (at + length (head 3 (length m))) (at + length (text m)))
 text_written class low high m g h s rest at e =
     let l = g.most in
     read_string_written s m rest at 3 e (omega arith) class low high refl g.enough l g.content
-    ∙ ap (λ (to : ℕ). Of (from_to (at + length (head 3 (length m))) to)) (ends (head 3 (length m)) m at)
+    ∙ ap (λ (to : ℕ). Ok (from_to (at + length (head 3 (length m))) to)) (ends (head 3 (length m)) m at)
 
 -- what stands where the content was found
 pub text_held : (m : List ℕ) → length m < 2 ^ 64 → (s rest : List ℕ) (at : ℕ) → drop at s ≡ text m ++ rest
@@ -38,7 +38,7 @@ pub record IsText (class : Class) (low high : ℕ) (s : List ℕ) (at : ℕ) (pa
   pub held : between s part ≡ tree
   pub there : drop at s ≡ text tree ++ drop part.to s
 
-pub text_read : (class : Class) (low high : ℕ) (s : List ℕ) → IsBytes s → (at : ℕ) {part : Span} → read_string s at class low high ≡ Of part → IsText class low high s at part
+pub text_read : (class : Class) (low high : ℕ) (s : List ℕ) → IsBytes s → (at : ℕ) {part : Span} → read_string s at class low high ≡ Ok part → IsText class low high s at part
 text_read class low high s b at {part} e =
     let h = held s at class low high e in
     let f = found s at 3 low high h.run_found in

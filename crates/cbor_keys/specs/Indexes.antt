@@ -1,10 +1,6 @@
 -- Reading. The index of each name among those of its place: `keys_of` lists them in this order (`indexes` of proofs/Indexes.antt).
 use Rattle.std.specs.Prelude.{ℕ}
 
--- the index of what is no name: no place has so many
-abbrev pub no_name : ℕ
-no_name = 16
-
 -- the keys of a token
 abbrev pub token_c : ℕ
 token_c = 0

@@ -1,6 +1,5 @@
 pub mod Keys
 pub mod Reading
-pub mod Steps
 pub mod Fields
 pub mod Maps
 pub mod Indexes

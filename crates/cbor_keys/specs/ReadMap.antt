@@ -4,40 +4,33 @@
 -- this reading with their keys. From the top: the head and its count; then, entry by entry, the key, whether it may stand there, and its
 -- value; behind the last, whether a required key is absent. A count and an absent key are defects of the map's head, a key out of place one
 -- of that key.
-use Rattle.std.specs.Prelude.{Bool, true, false, List, [], ◌∷◌, ℕ, zero, suc, ◌+◌, ◌-◌, eqb, ltb, length}
+use Rattle.std.specs.Prelude.{Ok, Bool, true, false, List, [], ◌∷◌, ℕ, zero, suc, ◌+◌, ◌-◌, eqb, ltb, length}
 use Rattle.basis.specs.Basis.{pick}
-use Rattle.cbor_heads.specs.Majors.{parse_cbor}
+use Rattle.basis.specs.declared.Span.{Span}
+use Rattle.cbor_heads.specs.Defects.{Reading, bad, after}
+use Rattle.cbor_heads.specs.declared.defect.Kind.TheVariants.{Cbor}
 use Rattle.cbor_heads.specs.Counts.{map_with}
-use Rattle.cbor_heads.specs.declared.Count.{Count}
-use Rattle.cbor_strings.specs.declared.Content.{Content}
-use Rattle.cbor_values.specs.declared.Item.{Item}
-use Rattle.cbor_values.specs.declared.Item.TheVariants.{End, Bad}
 use Rattle.cbor_keys.specs.Reading.{key_at}
-use Rattle.cbor_keys.specs.Steps.{after_item, after_content, after_count, after_key}
-use Rattle.cbor_keys.specs.declared.Key.{Key}
 use Rattle.cbor_keys.specs.declared.Names.{Names}
 
 -- what a map says of a key: whether it is required, and how its value is read, given where the values before it begin (the last one first) and
 -- where it begins itself. The value of v is the one that looks back: it is read as the t before it says
 pub record Field : Type 0 where
   pub required : Bool
-  pub value : List ℕ → ℕ → Item
+  pub value : List ℕ → ℕ → Reading ℕ
 
-abbrev pub required : (ℕ → Item) → Field
+abbrev pub required : (ℕ → Reading ℕ) → Field
 required value = record { required = true; value = λ before. value }
 
-abbrev pub optional : (ℕ → Item) → Field
+abbrev pub optional : (ℕ → Reading ℕ) → Field
 optional value = record { required = false; value = λ before. value }
 
 -- where a value ends, or its defect
-abbrev pub content_end : Content → Item
-content_end = after_content Bad (λ part. End part.to)
+abbrev pub content_end : Reading Span → Reading ℕ
+content_end = after (λ part. Ok part.to)
 
-abbrev pub count_end : Count → Item
-count_end = after_count Bad (λ n next. End next)
-
-abbrev pub key_end : Key → Item
-key_end = after_key Bad (λ index next. End next)
+abbrev pub pair_end : {A : Type 0} → Reading (A × ℕ) → Reading ℕ
+pair_end = after (λ (found, next). Ok next)
 
 unfoldable pub required_of : List Field → ℕ
 required_of [] = 0
@@ -50,18 +43,18 @@ field_at none some zero (f ∷ fs) = some f fs
 field_at none some (suc i) (f ∷ fs) = pick f.required none (field_at none some i fs)
 
 -- a value, and the entries behind it
-abbrev pub field_then : (List Field → List ℕ → ℕ → Item) → List ℕ → ℕ → Field → List Field → Item
-field_then rest before at f fs = after_item Bad (rest fs (at ∷ before)) (f.value before at)
+abbrev pub field_then : (List Field → List ℕ → ℕ → Reading ℕ) → List ℕ → ℕ → Field → List Field → Reading ℕ
+field_then rest before at f fs = after (rest fs (at ∷ before)) (f.value before at)
 
 -- a key that is known; `i` is the first index that has not been passed, and `fields` are those from it on
-abbrev pub entry_then : (ℕ → List Field → List ℕ → ℕ → Item) → ℕ → List Field → List ℕ → ℕ → ℕ → ℕ → Item
-entry_then rest i fields before at index next = pick (ltb index i) (Bad parse_cbor at) (field_at (Bad parse_cbor at) (field_then (rest (suc index)) before next) (index - i) fields)
+abbrev pub entry_then : (ℕ → List Field → List ℕ → ℕ → Reading ℕ) → ℕ → List Field → List ℕ → ℕ → (ℕ × ℕ) → Reading ℕ
+entry_then rest i fields before at (index, next) = pick (ltb index i) (bad Cbor at) (field_at (bad Cbor at) (field_then (rest (suc index)) before next) (index - i) fields)
 
 -- so many entries of the map at `map`
-unfoldable pub entries_of : Names → List ℕ → ℕ → ℕ → ℕ → List Field → List ℕ → ℕ → Item
-entries_of names s map zero i fields before at = pick (eqb (required_of fields) 0) (End at) (Bad parse_cbor map)
-entries_of names s map (suc k) i fields before at = after_key Bad (entry_then (entries_of names s map k) i fields before at) (key_at names s at)
+unfoldable pub entries_of : Names → List ℕ → ℕ → ℕ → ℕ → List Field → List ℕ → ℕ → Reading ℕ
+entries_of names s map zero i fields before at = pick (eqb (required_of fields) 0) (Ok at) (bad Cbor map)
+entries_of names s map (suc k) i fields before at = after (entry_then (entries_of names s map k) i fields before at) (key_at names s at)
 
 -- `names` are the known keys, and `fields` what the map says of them
-abbrev pub read_map : Names → List Field → List ℕ → ℕ → Item
-read_map names fields s at = after_count Bad (λ n. entries_of names s at n 0 fields []) (map_with (required_of fields) (length fields) s at)
+abbrev pub read_map : Names → List Field → List ℕ → ℕ → Reading ℕ
+read_map names fields s at = after (λ (n, next). entries_of names s at n 0 fields [] next) (map_with (required_of fields) (length fields) s at)

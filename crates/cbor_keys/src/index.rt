@@ -1,8 +1,5 @@
 // The index of each name among those of its place, in the order of `keys_of`.
 
-// No name of the place: none has so many.
-pub const NONE: u32 = 16;
-
 pub const TOKEN_C: u32 = 0;
 
 pub const TOKEN_R: u32 = 1;

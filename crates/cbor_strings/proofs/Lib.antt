@@ -1,4 +1,4 @@
-pub mod Classes
+pub mod Printable
 pub mod PathWalks
 pub mod PathJudged
 pub mod PathLaws
@@ -8,4 +8,3 @@ pub mod RunReads
 pub mod StringLaws
 pub mod OneAnswer
 pub mod Inside
-pub mod DefectKinds

@@ -2,9 +2,8 @@
 use mathlib.Core.Path.{◌≡◌, refl}
 use mathlib.Core.Bool.{true, false}
 use Rattle.basis.specs.Basis.{ascii}
-use Rattle.basis.specs.Same.{same_of}
 use Rattle.cbor_strings.specs.Paths.{starts, has, up_to, segments, among, is_rewritten}
-use Rattle.cbor_strings.specs.Strings.{is_printable, all_of, content_of}
+use Rattle.cbor_strings.specs.Strings.{is_printable, content_of}
 use Rattle.cbor_strings.specs.declared.Class.TheVariants.{Path}
 
 -- the root, an empty last segment, and segments that only begin with dots, also before a "?"; then the segments "." and "..", "//" and "%" anywhere,
@@ -27,5 +26,5 @@ pub clean_cases :
     × (content_of Path (ascii "/a?x=//") ≡ false)
     × (content_of Path (ascii "") ≡ false)
     × (content_of Path (ascii "a") ≡ false)
-unfolding same_of starts has up_to segments among is_rewritten is_printable all_of content_of
+unfolding starts has up_to segments among is_rewritten is_printable content_of
 clean_cases = (refl, refl, refl, refl, refl, refl, refl, refl, refl, refl, refl, refl, refl, refl, refl, refl, refl)

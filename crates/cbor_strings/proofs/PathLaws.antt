@@ -8,11 +8,12 @@ use Prim.Native.Nat.{ℕ}
 use borrow.Author.Tests.{eqb-true, eqb-false, eq-eqb, ne_eqb, not-true}
 use lib.Dec.{eqb}
 use lib.ListN.{get_or}
+use Rattle.std.specs.List.{list_all}
 use Rattle.basis.specs.Basis.{pick, ascii}
 use Rattle.basis.specs.Same.{same_of}
 use Rattle.basis.proofs.Sameness.{same_equal, equal_same}
 use Rattle.cbor_strings.specs.Paths.{slash, percent, starts, has, up_to, segments, among, is_rewritten}
-use Rattle.cbor_strings.specs.Strings.{is_printable, all_of, content_of}
+use Rattle.cbor_strings.specs.Strings.{is_printable, content_of}
 use Rattle.cbor_strings.specs.Segments.{path_of, is_segment_byte, GoodSegment, GoodSegments, last, more, Clean}
 use Rattle.cbor_strings.specs.declared.Class.TheVariants.{Path}
 
@@ -38,10 +39,10 @@ record SegmentByte (c : ℕ) : Type 0 where
   no_slash : eqb c slash ≡ false
   no_percent : eqb c percent ≡ false
 
-first_byte : (c : ℕ) (g : List ℕ) → all_of is_segment_byte (c ∷ g) ≡ true → SegmentByte c × (all_of is_segment_byte g ≡ true)
-unfolding all_of is_segment_byte
+first_byte : (c : ℕ) (g : List ℕ) → list_all is_segment_byte (c ∷ g) ≡ true → SegmentByte c × (list_all is_segment_byte g ≡ true)
+unfolding is_segment_byte
 first_byte c g e =
-    let x = (and-eq-true_iff (is_segment_byte c) (all_of is_segment_byte g)).0 e in
+    let x = (and-eq-true_iff (is_segment_byte c) (list_all is_segment_byte g)).0 e in
     let p = (and-eq-true_iff (is_printable c && not (eqb c slash)) (not (eqb c percent))).0 x.0 in
     let q = (and-eq-true_iff (is_printable c) (not (eqb c slash))).0 p.0 in
     (record { printable = q.0; no_slash = not-true _ q.1; no_percent = not-true _ p.1 }, x.1)
@@ -65,17 +66,17 @@ unfolding starts
 begins_one a c t = begins a c [] t ∙ and-true (eqb c a)
 
 -- fine, by the tests of the definition
-only_fine : (s : List ℕ) → all_of is_printable s ≡ true → has (ascii "%") s ≡ false → has (ascii "//") s ≡ false → Fine s
-unfolding all_of has
+only_fine : (s : List ℕ) → list_all is_printable s ≡ true → has (ascii "%") s ≡ false → has (ascii "//") s ≡ false → Fine s
+unfolding has
 only_fine [] p n d = end
 only_fine (c ∷ t) p n d =
-    let x = (and-eq-true_iff (is_printable c) (all_of is_printable t)).0 p in
+    let x = (and-eq-true_iff (is_printable c) (list_all is_printable t)).0 p in
     let y = (neither (starts (ascii "%") (c ∷ t)) (has (ascii "%") t)).0 n in
     let z = (neither (starts (ascii "//") (c ∷ t)) (has (ascii "//") t)).0 d in
     byte c t x.0 (sym (begins_one percent c t) ∙ y.0) (sym (begins slash c (ascii "/") t) ∙ z.0) (only_fine t x.1 y.1 z.1)
 
-does_fine : {s : List ℕ} → Fine s → (all_of is_printable s ≡ true) × (has (ascii "%") s ≡ false) × (has (ascii "//") s ≡ false)
-unfolding all_of has starts
+does_fine : {s : List ℕ} → Fine s → (list_all is_printable s ≡ true) × (has (ascii "%") s ≡ false) × (has (ascii "//") s ≡ false)
+unfolding has starts
 does_fine end = (refl, refl, refl)
 does_fine (byte c t p n d f) =
     let h = does_fine f in
@@ -87,7 +88,7 @@ record Past (g r : List ℕ) : Type 0 where
   opens : segments (g ++ r) ≡ segments r
   fine : Fine r → Fine (g ++ r)
 
-past : (g r : List ℕ) → all_of is_segment_byte g ≡ true → Past g r
+past : (g r : List ℕ) → list_all is_segment_byte g ≡ true → Past g r
 unfolding up_to segments
 past [] r e = record { counts = refl; opens = refl; fine = λ f. f }
 past (c ∷ g) r e =
@@ -119,12 +120,12 @@ segments_path gs (last g k) = first_segment g [] k
 segments_path gs (more g rest k n r) = first_segment g rest k ∙ ap (λ (r : List (List ℕ)). g ∷ r) (segments_path rest r)
 
 -- up to the first "/", a fine text is of segment bytes
-up_bytes : {s : List ℕ} → Fine s → all_of is_segment_byte (up_to s) ≡ true
-unfolding all_of up_to is_segment_byte
+up_bytes : {s : List ℕ} → Fine s → list_all is_segment_byte (up_to s) ≡ true
+unfolding up_to is_segment_byte
 up_bytes end = refl
 up_bytes (byte c t p n d f) = by (eqb c slash) refl (up_bytes f)
   where
-    by : (u : Bool) → eqb c slash ≡ u → all_of is_segment_byte (up_to t) ≡ true → all_of is_segment_byte (pick u [] (c ∷ up_to t)) ≡ true
+    by : (u : Bool) → eqb c slash ≡ u → list_all is_segment_byte (up_to t) ≡ true → list_all is_segment_byte (pick u [] (c ∷ up_to t)) ≡ true
     by true e h = refl
     by false e h = rw (p, e, n) h
 
@@ -188,8 +189,8 @@ good_path (byte c t p m d f) e n = rw e (good_from t f (rw e at d) (rw e at n) (
 only_clean : (s : List ℕ) → content_of Path s ≡ true → Clean s
 unfolding content_of is_rewritten
 only_clean s e =
-    let x = (and-eq-true_iff (eqb (get_or s 0 0) slash && all_of is_printable s) (not (is_rewritten s))).0 e in
-    let y = (and-eq-true_iff (eqb (get_or s 0 0) slash) (all_of is_printable s)).0 x.0 in
+    let x = (and-eq-true_iff (eqb (get_or s 0 0) slash && list_all is_printable s) (not (is_rewritten s))).0 e in
+    let y = (and-eq-true_iff (eqb (get_or s 0 0) slash) (list_all is_printable s)).0 x.0 in
     let a = (neither (has (ascii "%") s || has (ascii "//") s || among (ascii ".") (segments s)) (among (ascii "..") (segments s))).0 (not-true _ x.1) in
     let b = (neither (has (ascii "%") s || has (ascii "//") s) (among (ascii ".") (segments s))).0 a.0 in
     let c = (neither (has (ascii "%") s) (has (ascii "//") s)).0 b.0 in
@@ -200,7 +201,7 @@ slash_fine : (g r : List ℕ) → GoodSegment g → (g ≡ [] → starts (ascii 
 unfolding is_printable
 slash_fine g r k h f = byte slash (g ++ r) refl refl (by g k.good_bytes h) ((past g r k.good_bytes).fine f)
   where
-    by : (g : List ℕ) → all_of is_segment_byte g ≡ true → (g ≡ [] → starts (ascii "/") r ≡ false) → starts (ascii "/") (g ++ r) ≡ false
+    by : (g : List ℕ) → list_all is_segment_byte g ≡ true → (g ≡ [] → starts (ascii "/") r ≡ false) → starts (ascii "/") (g ++ r) ≡ false
     by [] e h = h refl
     by (c ∷ g) e h = begins_one slash c (g ++ r) ∙ (first_byte c g e).0.no_slash
 

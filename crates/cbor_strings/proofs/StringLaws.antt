@@ -1,5 +1,7 @@
 -- Reading a string that was written gives its place, and a string that reads well is what writing its content gives: once for
 -- every major type, range and class.
+use Rattle.std.specs.Prelude.{Ok}
+use Rattle.cbor_heads.specs.Reading.{got}
 use mathlib.Core.Path.{◌≡◌, refl, sym, ap, ◌∙◌}
 use mathlib.Core.Bool.{true}
 use mathlib.Core.List.{List, ◌++◌, append_assoc}
@@ -15,8 +17,6 @@ use Rattle.cbor_heads.specs.Reading.{head_at, read_head}
 use Rattle.cbor_strings.specs.Strings.{string, content_of}
 use Rattle.cbor_strings.specs.Reading.{run_by, read_run, content_by, read_string}
 use Rattle.cbor_strings.specs.declared.Class.{Class}
-use Rattle.cbor_heads.specs.declared.Head.TheVariants.{Got}
-use Rattle.cbor_strings.specs.declared.Content.TheVariants.{Of}
 use Rattle.cbor_heads.proofs.HeadLaws.{read_written, written_read, drop_bytes}
 use Rattle.cbor_strings.proofs.RunReads.{found}
 
@@ -34,7 +34,7 @@ module _ (s content rest : List ℕ) (at major : ℕ) (e : drop at s ≡ string 
   front : drop at s ≡ head major (length content) ++ (content ++ rest)
   front = e ∙ append_assoc (head major (length content)) content rest
 
-  pub written_head : read_head s at ≡ Got major (length content) from
+  pub written_head : read_head s at ≡ Ok (got major (length content) from)
   written_head = ap (head_at at) front ∙ read_written at major (length content) (content ++ rest) n
 
   pub fits : length s - at ≡ length (head major (length content)) + (length content + length rest)
@@ -42,7 +42,7 @@ module _ (s content rest : List ℕ) (at major : ℕ) (e : drop at s ≡ string 
       ∙ ap (λ (k : ℕ). length (head major (length content)) + k) (length-append content rest)
 
   pub read_run_written : (low high : ℕ) → low ≤ length content → length content ≤ high
-      → read_run s at major low high ≡ Of (from_to from (from + length content))
+      → read_run s at major low high ≡ Ok (from_to from (from + length content))
   unfolding run_by
   read_run_written low high l h =
       rw (written_head, eq-eqb major major refl, le-ltb _ _ l, le-ltb _ _ h, le-ltb (length s - from) (length content) (omega (arith, fits)))
@@ -56,16 +56,16 @@ module _ (s content rest : List ℕ) (at major : ℕ) (e : drop at s ≡ string 
       ap (take (length content)) p ∙ take_at content rest (length content) refl
 
   pub read_string_written : (class : Class) (low high : ℕ) → major ≡ 3 → low ≤ length content → length content ≤ high → content_of class content ≡ true
-      → read_string s at class low high ≡ Of (from_to from (from + length content))
+      → read_string s at class low high ≡ Ok (from_to from (from + length content))
   unfolding content_by
   read_string_written class low high m l h k =
-      let r : read_run s at 3 low high ≡ Of (from_to from (from + length content)) =
+      let r : read_run s at 3 low high ≡ Ok (from_to from (from + length content)) =
       ap (λ (i : ℕ). read_run s at i low high) (sym m) ∙ read_run_written low high l h in
       let c : take (from + length content - from) (drop from s) ≡ content = ap (λ (i : ℕ). take i (drop from s)) (past from (length content)) ∙ content_there in
       rw (r, c, k)
 
 -- what is read well is what writing gives, with what stands behind it
-module _ (s : List ℕ) (at major low high : ℕ) (b : IsBytes s) {part : Span} (e : read_run s at major low high ≡ Of part) where
+module _ (s : List ℕ) (at major low high : ℕ) (b : IsBytes s) {part : Span} (e : read_run s at major low high ≡ Ok part) where
   abbrev content : List ℕ
   content = between s part
 

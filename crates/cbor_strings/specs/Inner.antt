@@ -1,56 +1,52 @@
--- Inner. How the code judges content: the classes as runs of disjoint kinds, and a path a byte after the other.
-use Rattle.std.specs.Prelude.{Bool, false, not, ◌&&◌, ◌||◌, List, [], ◌∷◌, ℕ, eqb, leb, ltb}
+-- Inner. How the code judges a path: a byte after the other, or many at a time where nothing is near.
+use Rattle.std.specs.Prelude.{Bool, true, false, not, ◌&&◌, ◌||◌, List, [], ◌∷◌, ℕ, eqb, ltb, Option, Some, None, option_and_then}
 use Rattle.basis.specs.Basis.{pick}
 use Rattle.cbor_strings.specs.Paths.{slash, percent}
-use Rattle.cbor_strings.specs.Strings.{is_hex, is_name, is_printable, is_upper}
-
--- the kinds of characters, disjoint: each class is a run of them
-unfoldable pub kind_of : ℕ → ℕ
-kind_of c = pick (is_upper c) 3 (pick (is_hex c) 4 (pick (is_name c) 2 (pick (is_printable c) 1 0)))
-
-abbrev pub kinds_from : ℕ → ℕ → ℕ → Bool
-kinds_from low high c = leb low (kind_of c) && leb (kind_of c) high
-
--- what is seen so far of the segment that is open: nothing, ".", "..", or anything else; or the path is refused, whatever follows
-abbrev pub anything : ℕ
-anything = 0
-
-abbrev pub nothing : ℕ
-nothing = 1
-
-abbrev pub dot : ℕ
-dot = 2
-
-abbrev pub dots : ℕ
-dots = 3
-
-abbrev pub refused : ℕ
-refused = 4
+use Rattle.cbor_strings.specs.Strings.{is_printable}
+use Rattle.cbor_strings.specs.declared.Seen.{Seen}
+use Rattle.cbor_strings.specs.declared.Seen.TheVariants.{Anything, Nothing, Dot, Dots}
 
 -- a byte that no path has
 unfoldable pub is_outside : ℕ → Bool
 is_outside c = eqb c percent || not (is_printable c)
 
-abbrev pub after_dot : ℕ → ℕ
-after_dot seen = pick (eqb seen nothing) dot (pick (eqb seen dot) dots anything)
+-- what is seen of the open segment is nothing, ".", ".." or anything else. Behind a "/", which opens another, and behind a ".":
+abbrev pub after_slash : Seen → Option Seen
+after_slash Anything = Some Nothing
+after_slash _ = None
 
-unfoldable pub next_seen : ℕ → ℕ → ℕ
-next_seen seen c = pick (is_outside c) refused (pick (eqb c slash) (pick (eqb seen anything) nothing refused) (pick (eqb c 46) (after_dot seen) anything))
+abbrev pub after_dot : Seen → Seen
+after_dot Nothing = Dot
+after_dot Dot = Dots
+after_dot _ = Anything
 
-unfoldable pub seen_by : ℕ → List ℕ → ℕ
-seen_by seen [] = seen
-seen_by seen (c ∷ t) = pick (eqb seen refused) refused (seen_by (next_seen seen c) t)
+-- behind one more byte; None where the path is refused, whatever follows
+unfoldable pub next_seen : Seen → ℕ → Option Seen
+next_seen seen c = pick (is_outside c) None (pick (eqb c slash) (after_slash seen) (Some (pick (eqb c 46) (after_dot seen) Anything)))
+
+unfoldable pub seen_by : Seen → List ℕ → Option Seen
+seen_by seen [] = Some seen
+seen_by seen (c ∷ t) = option_and_then (λ next. seen_by next t) (next_seen seen c)
+
+-- whether a path may end there
+abbrev pub may_end : Seen → Bool
+may_end Anything = true
+may_end Nothing = true
+may_end _ = false
 
 -- behind a byte where nothing is near
-abbrev pub seen_behind : ℕ → ℕ
-seen_behind c = pick (eqb c slash) nothing anything
+abbrev pub seen_behind : ℕ → Seen
+seen_behind c = pick (eqb c slash) Nothing Anything
 
 -- a byte below "-", where "%" is, or past "~"; or a "." or a "/" behind a "/"
 unfoldable pub is_near : ℕ → ℕ → Bool
 is_near before c = (ltb c 0x2d || ltb 0x7e c) || (eqb before slash && (eqb c 46 || eqb c slash))
 
--- the first list has the byte before each of the second
-unfoldable pub near_by : List ℕ → List ℕ → Bool
-near_by [] t = false
-near_by (a ∷ p) [] = false
-near_by (a ∷ p) (c ∷ t) = is_near a c || near_by p t
+-- behind this byte, and in a text: behind its first byte
+unfoldable pub near_behind : ℕ → List ℕ → Bool
+near_behind before [] = false
+near_behind before (c ∷ t) = is_near before c || near_behind c t
+
+unfoldable pub near_in : List ℕ → Bool
+near_in [] = false
+near_in (c ∷ t) = near_behind c t

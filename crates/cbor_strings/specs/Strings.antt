@@ -1,6 +1,7 @@
 -- Meaning. Strings: how one is written, and the classes of content. Document 01, "Token bytes": "tid, kid, tenant, ns, name: 1 to 64 of
 -- letters, digits, "-", ".", "_". aud: 1 to 128 bytes 0x21 to 0x7e. Prefix and path_prefix: 1 to 256 such bytes, first "/"."
-use Rattle.std.specs.Prelude.{Bool, true, not, ◌&&◌, ◌||◌, List, [], ◌∷◌, ◌++◌, ℕ, length, get_or, leb, eqb}
+use Rattle.std.specs.Prelude.{Bool, not, ◌&&◌, ◌||◌, List, ◌++◌, ℕ, length, get_or, leb, eqb}
+use Rattle.std.specs.List.{list_all}
 use Rattle.cbor_heads.specs.Heads.{head}
 use Rattle.cbor_strings.specs.Paths.{slash, is_rewritten}
 use Rattle.cbor_strings.specs.declared.Class.{Class}
@@ -30,14 +31,10 @@ is_upper c = within 65 90 c
 unfoldable pub is_hex : ℕ → Bool
 is_hex c = within 48 57 c || within 97 102 c
 
-unfoldable pub all_of : (ℕ → Bool) → List ℕ → Bool
-all_of f [] = true
-all_of f (c ∷ t) = f c && all_of f t
-
 -- 01: a path is printable bytes, "first "/""; 02, M-106: and nothing that a proxy rewrites, in all three places
 unfoldable pub content_of : Class → List ℕ → Bool
-content_of Name s = all_of is_name s
-content_of Printable s = all_of is_printable s
-content_of Path s = eqb (get_or s 0 0) slash && all_of is_printable s && not (is_rewritten s)
-content_of Upper s = all_of is_upper s
-content_of Hex s = all_of is_hex s
+content_of Name s = list_all is_name s
+content_of Printable s = list_all is_printable s
+content_of Path s = eqb (get_or s 0 0) slash && list_all is_printable s && not (is_rewritten s)
+content_of Upper s = list_all is_upper s
+content_of Hex s = list_all is_hex s

@@ -2,18 +2,20 @@
 // place in it; a defect carries document 01's number and the place of the item at fault.
 #![tactic(auto)]
 
-ghost use Rattle.std.specs.Prelude.{◌≡◌, not, ◌&&◌, ◌||◌, ◌≤◌, ◌<◌, min, max, length};
-ghost use Rattle.cbor_strings.specs.Strings.{within, all_of, content_of};
-ghost use Rattle.cbor_strings.specs.Inner.{kind_of, kinds_from, near_by, next_seen, seen_by};
+ghost use Rattle.std.specs.Prelude.{◌≡◌, not};
+ghost use Rattle.std.specs.List.{list_all};
+ghost use Rattle.cbor_strings.specs.Strings.{is_name, is_hex, is_printable, content_of};
+ghost use Rattle.cbor_strings.specs.Inner.{is_near, near_in, next_seen, seen_by, may_end};
 ghost use Rattle.cbor_strings.specs.declared.Class.TheVariants.{Path};
+ghost use Rattle.cbor_strings.specs.declared.Seen.TheVariants.{Nothing};
 ghost use Rattle.cbor_strings.specs.Reading.{read_run, read_string};
 
 use basis::Span;
-use cbor_heads::defect::{BOUNDS, CBOR};
+use cbor_heads::defect::{Defect, Kind, Reading};
 use cbor_heads::{Head, major};
 
 // What a string may hold.
-#[derive(Clone, Copy)]
+#[derive(Clone, Copy, PartialEq, Eq)]
 pub enum Class {
     Name,
     Printable,
@@ -22,308 +24,199 @@ pub enum Class {
     Hex,
 }
 
-// Where a string's content lies, or what is wrong with it: document 01's number and the place.
-#[derive(Clone, Copy)]
-pub enum Content {
-    Of { span: Span },
-    Bad { kind: u32, at: usize },
+// What is seen so far of the segment of a path that is open: nothing, ".", ".." or anything else.
+#[derive(Clone, Copy, PartialEq, Eq)]
+enum Seen {
+    Anything,
+    Nothing,
+    Dot,
+    Dots,
 }
 
-// What is seen so far of the segment of a path that is open; or that the path is refused, whatever follows.
-mod seen {
-    pub const ANYTHING: u8 = 0;
-
-    pub const NOTHING: u8 = 1;
-
-    pub const DOT: u8 = 2;
-
-    pub const DOTS: u8 = 3;
-
-    pub const REFUSED: u8 = 4;
-}
-
-// The kind of a character before "A".
-fn sign_kind(c: u8) -> u8
-    requires { c < 65 }
-    ensures { result ≡ kind_of c }
-{
-    if c < 0x21 {
-        return 0;
-    }
-    if c < b'-' {
-        return 1;
-    }
-    if c < b'/' {
-        return 2;
-    }
-    if c < b'0' {
-        return 1;
-    }
-    if c < 0x3a {
-        return 4;
-    }
-    1
-}
-
-// The kind of a character before "a".
-fn upper_kind(c: u8) -> u8
-    requires { c < 97 }
-    ensures { result ≡ kind_of c }
-{
-    if c < b'A' {
-        return sign_kind(c);
-    }
-    if c < 0x5b {
-        return 3;
-    }
-    if c < b'_' {
-        return 1;
-    }
-    if c == b'_' {
-        return 2;
-    }
-    1
-}
-
-// The kind of each character: 4 a hex digit, 3 a letter A-Z, 2 another character of a name, 1 another
-// printable one, 0 none of these. Tests and no table: for the kinds that a loop asks for, few of them are left.
-fn kind(c: u8) -> u8
-    ensures { result ≡ kind_of c }
-{
-    if c < b'a' {
-        return upper_kind(c);
-    }
-    if c < b'g' {
-        return 4;
-    }
-    if c < 0x7b {
-        return 2;
-    }
-    if c < 0x7f {
-        return 1;
-    }
-    0
-}
-
-// Whether every character has a kind from low to high.
-fn all_from(s: &[u8], low: u8, high: u8) -> bool
-    ensures { result ≡ all_of (kinds_from low high) s.now }
-{
-    let mut i: usize = 0;
-    while i < s.len() {
-        let k = kind(s[i]);
-        if k < low {
-            return false;
+impl Seen {
+    // Whether a path may end there.
+    fn may_end(self) -> bool
+        ensures { result ≡ may_end self }
+    {
+        match self {
+            Seen::Anything | Seen::Nothing => true,
+            Seen::Dot | Seen::Dots => false,
         }
-        if high < k {
-            return false;
-        }
-        i += 1;
     }
-    true
 }
 
-fn lower(a: u8, b: u8) -> u8
-    ensures { result ≡ min a b }
+// Letters, digits, "-", "." and "_", by nested tests: one `matches!` needs 337 instructions for 192 at 16 bytes.
+#[tactic(auto, unfolding(crate::specs::Strings::is_name))]
+fn is_name(c: u8) -> bool
+    ensures { result ≡ is_name c }
 {
-    if a < b { a } else { b }
-}
-
-fn higher(a: u8, b: u8) -> u8
-    ensures { result ≡ max a b }
-{
-    if a < b { b } else { a }
-}
-
-// Whether every character lies from low to high. The loop has one way out, so that the compiler takes
-// many characters at a time.
-fn all_between(s: &[u8], low: u8, high: u8) -> bool
-    ensures { result ≡ all_of (within low high) s.now }
-{
-    let mut first: u8 = 255;
-    let mut last: u8 = 0;
-    let mut i: usize = 0;
-    while i < s.len() {
-        let c = s[i];
-        first = lower(c, first);
-        last = higher(c, last);
-        i += 1;
+    if b'a' <= c {
+        c <= b'z'
+    } else if b'A' <= c {
+        c <= b'Z' || c == b'_'
+    } else {
+        b'-' <= c && c <= b'9' && c != b'/'
     }
-    if first < low {
-        return false;
+}
+
+#[tactic(auto, unfolding(crate::specs::Strings::is_hex))]
+fn is_hex(c: u8) -> bool
+    ensures { result ≡ is_hex c }
+{
+    c.is_ascii_digit() || matches!(c, b'a'..=b'f')
+}
+
+// Whether every character is from 0x21 to 0x7e. The loop has one way out, so that the compiler takes many characters
+// at a time; a fold of the test with `&` needs 566 instructions for 356 at 1,024 bytes.
+#[tactic(auto, using(crate::proofs::Printable::printable_more))]
+fn all_printable(s: &[u8]) -> bool
+    ensures { result ≡ list_all is_printable s.now }
+{
+    let mut first = u8::MAX;
+    let mut last = 0;
+    for &c in s {
+        first = first.min(c);
+        last = last.max(c);
     }
-    last <= high
+    0x21 <= first && last <= 0x7e
 }
 
-fn either(a: bool, b: bool) -> bool
-    ensures { result ≡ a || b }
+// Whether a byte may be one that a path must not have: below "-", where "%" is, or past "~"; or "." or "/" behind "/".
+#[tactic(auto, unfolding(crate::specs::Inner::is_near))]
+fn is_near(before: u8, c: u8) -> bool
+    ensures { result ≡ is_near before c }
 {
-    if a { true } else { b }
+    (c < b'-') | (0x7e < c) | ((before == b'/') & ((c == b'.') | (c == b'/')))
 }
 
-fn both(a: bool, b: bool) -> bool
-    ensures { result ≡ a && b }
-{
-    if a { b } else { false }
-}
-
-// Whether nothing is near that a path must not have: all lies from "-" to "~", "%" before that, and neither "." nor
-// "/" behind a "/"; `before` has the byte before each. The loop has one way out, so that the compiler takes many
-// characters at a time.
-fn far(before: &[u8], s: &[u8]) -> bool
-    requires { length s.now ≤ length before.now }
-    ensures { result ≡ not (near_by before.now s.now) }
+// Whether nothing behind the first byte is near. The loop has one way out, so that the compiler takes many bytes at
+// a time; over `zip` or `windows` it takes sixteen of them one by one: 389 or 409 instructions for 130 at 64 bytes.
+#[tactic(auto, using(crate::proofs::PathWalks::far_end, crate::proofs::PathWalks::far_on))]
+fn far(s: &[u8]) -> bool
+    ensures { result ≡ not (near_in s.now) }
 {
     let mut near = false;
-    let mut i: usize = 0;
-    while i < s.len() {
-        let c = s[i];
-        let behind = both(before[i] == b'/', either(c == b'.', c == b'/'));
-        near = either(near, either(either(c < b'-', 0x7e < c), behind));
-        i += 1;
+    for i in 1..s.len() {
+        near |= is_near(s[i - 1], s[i]);
     }
-    if near { false } else { true }
+    !near
 }
 
-// What is seen of the open segment of a path behind one more byte. Letters are asked for first: they are most.
-#[tactic(auto, using(crate::proofs::PathWalks::one_byte))]
-fn next_seen(seen: u8, c: u8) -> u8
+// What is seen of the open segment of a path behind one more byte; `None` where the path is refused. Letters are asked
+// for first, since they are most: as an arm of the `match` they need 287 instructions for 188 at 16 bytes.
+#[tactic(auto, unfolding(crate::specs::Inner::next_seen, crate::specs::Inner::is_outside, crate::specs::Strings::is_printable))]
+fn next_seen(seen: Seen, c: u8) -> Option<Seen>
     ensures { result ≡ next_seen seen c }
 {
-    if b'/' < c {
-        if c < 0x7f {
-            return seen::ANYTHING;
-        }
-        return seen::REFUSED;
+    if matches!(c, b'0'..=b'~') {
+        return Some(Seen::Anything);
     }
-    if c == b'/' {
-        if seen == seen::ANYTHING {
-            return seen::NOTHING;
-        }
-        return seen::REFUSED;
+    match c {
+        b'/' if seen == Seen::Anything => Some(Seen::Nothing),
+        b'.' if seen == Seen::Nothing => Some(Seen::Dot),
+        b'.' if seen == Seen::Dot => Some(Seen::Dots),
+        b'.' | b'!'..=b'$' | b'&'..=b'-' => Some(Seen::Anything),
+        _ => None,
     }
-    if c == b'.' {
-        if seen == seen::NOTHING {
-            return seen::DOT;
-        }
-        if seen == seen::DOT {
-            return seen::DOTS;
-        }
-        return seen::ANYTHING;
-    }
-    if c < 0x21 {
-        return seen::REFUSED;
-    }
-    if c == b'%' {
-        return seen::REFUSED;
-    }
-    seen::ANYTHING
 }
 
-// What is seen of it behind so many more bytes, one after the other.
-fn walk(s: &[u8], seen: u8) -> u8
-    ensures { result ≡ seen_by seen s.now }
+// What is seen at the end of a path, of which this stands behind the first "/"; `None` where the path is refused.
+#[tactic(auto, using(crate::proofs::PathWalks::walk_end, crate::proofs::PathWalks::walk_off, crate::proofs::PathWalks::walk_on))]
+fn walk(s: &[u8]) -> Option<Seen>
+    ensures { result ≡ seen_by Nothing s.now }
 {
-    if seen == seen::REFUSED {
-        return seen::REFUSED;
+    let mut seen = Seen::Nothing;
+    for &c in s {
+        seen = next_seen(seen, c)?;
     }
-    let mut so_far = seen;
-    let mut i: usize = 0;
-    while i < s.len() {
-        so_far = next_seen(so_far, s[i]);
-        if so_far == seen::REFUSED {
-            return seen::REFUSED;
-        }
-        i += 1;
-    }
-    so_far
+    Some(seen)
 }
 
 // Whether a path's content is good. One where nothing is near is read many bytes at a time: whole stretches of
 // sixteen from the front and, since they may leave some, the last sixteen. Any other, and a short one, is walked.
-#[tactic(auto, using(crate::proofs::PathJudged::no_path, crate::proofs::PathJudged::no_slash, crate::proofs::PathJudged::far_stands, crate::proofs::PathJudged::walk_stands))]
+#[tactic(auto, using(crate::proofs::PathJudged::no_slash, crate::proofs::PathJudged::walk_stands, crate::proofs::PathJudged::far_stands))]
 fn path_is(s: &[u8]) -> bool
     ensures { result ≡ content_of Path s.now }
 {
-    if s.len() == 0 {
+    let Some(rest) = s.strip_prefix(b"/") else {
         return false;
-    }
-    if s[0] != b'/' {
-        return false;
-    }
-    if 16 < s.len() {
-        let front = (s.len() - 1) / 16 * 16;
-        let last = s.len() - 17;
-        if far(&s[..front], &s[1..front + 1]) {
-            if far(&s[last..last + 16], &s[last + 1..last + 17]) {
-                return true;
-            }
+    };
+    if let Some(end) = s.last_chunk::<17>() {
+        let front = (s.len() - 1) / 16 * 16 + 1;
+        if far(&s[..front]) && far(end) {
+            return true;
         }
     }
-    walk(&s[1..], seen::NOTHING) < seen::DOT
+    walk(rest).is_some_and(Seen::may_end)
 }
 
+#[tactic(auto, unfolding(crate::specs::Strings::content_of, crate::specs::Strings::is_upper))]
 pub fn content_is(s: &[u8], class: Class) -> bool
     ensures { result ≡ content_of class s.now }
 {
     match class {
-        Class::Name => all_from(s, 2, 4),
-        Class::Printable => all_between(s, 0x21, 0x7e),
+        Class::Name => s.iter().all(|&c| is_name(c)),
+        Class::Printable => all_printable(s),
         Class::Path => path_is(s),
-        Class::Upper => all_from(s, 3, 3),
-        Class::Hex => all_from(s, 4, 4),
+        Class::Upper => s.iter().all(|c| c.is_ascii_uppercase()),
+        // No way out before the end, so that the compiler takes many: `all` needs 237 instructions for 87 at 16 bytes.
+        Class::Hex => s.iter().fold(true, |all, &c| all & is_hex(c)),
     }
 }
 
 // A string of the major type wanted with low to high bytes, whatever they are.
-pub fn read_run(s: &[u8], at: usize, major: u8, low: u64, high: u64) -> Content
+#[tactic(auto, unfolding(crate::specs::Reading::run_by))]
+pub fn read_run(s: &[u8], at: usize, major: u8, low: u64, high: u64) -> Reading<Span>
     ensures { result ≡ read_run s.now at major low high }
 {
-    match cbor_heads::read_head(s, at) {
-        Head::Bad { at: a } => Content::Bad { kind: CBOR, at: a },
-        Head::Got {
-            major: m,
-            value: n,
-            next,
-        } => {
-            if m != major {
-                return Content::Bad { kind: CBOR, at };
-            }
-            if n < low {
-                return Content::Bad { kind: BOUNDS, at };
-            }
-            if high < n {
-                return Content::Bad { kind: BOUNDS, at };
-            }
-            if s.len() - next < n as usize {
-                return Content::Bad { kind: CBOR, at };
-            }
-            Content::Of {
-                span: Span {
-                    from: next,
-                    to: next + n as usize,
-                },
-            }
-        }
+    let Head {
+        major: m,
+        value: n,
+        next,
+    } = cbor_heads::read_head(s, at)?;
+    if m != major {
+        return Err(Defect {
+            kind: Kind::Cbor,
+            at,
+        });
     }
+    if n < low {
+        return Err(Defect {
+            kind: Kind::Bounds,
+            at,
+        });
+    }
+    if high < n {
+        return Err(Defect {
+            kind: Kind::Bounds,
+            at,
+        });
+    }
+    if s.len() - next < n as usize {
+        return Err(Defect {
+            kind: Kind::Cbor,
+            at,
+        });
+    }
+    Ok(Span {
+        from: next,
+        to: next + n as usize,
+    })
 }
 
 // A text string with low to high bytes of the class.
-pub fn read_string(s: &[u8], at: usize, class: Class, low: u64, high: u64) -> Content
+#[tactic(auto, unfolding(crate::specs::Reading::content_by))]
+pub fn read_string(s: &[u8], at: usize, class: Class, low: u64, high: u64) -> Reading<Span>
     ensures { result ≡ read_string s.now at class low high }
 {
-    match read_run(s, at, major::TEXT, low, high) {
-        Content::Bad { kind: k, at: a } => Content::Bad { kind: k, at: a },
-        Content::Of { span } => {
-            let from = span.from;
-            let to = span.to;
-            if content_is(&s[from..to], class) {
-                return Content::Of { span };
-            }
-            Content::Bad {
-                kind: CBOR,
-                at: from,
-            }
-        }
+    let span = read_run(s, at, major::TEXT, low, high)?;
+    let from = span.from;
+    let to = span.to;
+    if content_is(&s[from..to], class) {
+        return Ok(span);
     }
+    Err(Defect {
+        kind: Kind::Cbor,
+        at: from,
+    })
 }

@@ -5,4 +5,3 @@ pub mod TreeReads
 pub mod TreesRead
 pub mod OneTree
 pub mod Inside
-pub mod DefectKinds

@@ -1,28 +1,22 @@
 // The values of a custom caveat: read by recursion with the remaining depth as the falling number, in
-// a slice of any length, with any count of elements. UTF-8 by RFC 3629.
+// a slice of any length, with any count of elements. UTF-8 by RFC 3629. And lists of items, whatever the items are.
 #![tactic(auto)]
 
-ghost use Rattle.std.specs.Prelude.{◌≡◌, ◌<◌, ◌≤◌, length};
-ghost use Rattle.cbor_values.specs.Utf8.{lead_of, step_of, utf8};
-ghost use Rattle.cbor_values.specs.declared.Tail.TheVariants.{Due};
+ghost use Rattle.std.specs.Prelude.{◌≡◌, List, ℕ, ◌<◌, ◌≤◌, length};
+ghost use Rattle.cbor_heads.specs.Defects.{Reading};
+ghost use Rattle.cbor_values.specs.Utf8.{asks, lead_of, step_of, utf8};
 ghost use Rattle.cbor_values.specs.Reading.{run_of, text_of, items_of, value_of};
 
 use basis::Span;
-use cbor_heads::defect::{BOUNDS, CBOR};
+use cbor_heads::defect::{Defect, Kind, Reading};
 use cbor_heads::{Head, major};
 
 // How many bytes must still follow, and from where to where the first of them goes.
 #[derive(Clone, Copy)]
-pub enum Tail {
-    Due { n: u8, low: u8, high: u8 },
-    Never,
-}
-
-// Where an item ends, or what is wrong with it: document 01's number and the place.
-#[derive(Clone, Copy)]
-pub enum Item {
-    End { next: usize },
-    Bad { kind: u32, at: usize },
+pub struct Due {
+    pub n: u8,
+    pub low: u8,
+    pub high: u8,
 }
 
 // A list as it lies: how many items there are, and from where to where.
@@ -32,175 +26,167 @@ pub struct ListAt {
     pub span: Span,
 }
 
-fn due(n: u8, low: u8, high: u8) -> Tail
-    ensures { result ≡ Due n low high }
+// What lists are made of: the item at a place ends where `item` says.
+pub trait Item {
+    ghost item: { List ℕ → ℕ → Reading ℕ };
+
+    fn end(s: &[u8], at: usize) -> Reading<usize>
+        ensures { result ≡ item s.now at };
+}
+
+// Where so many items end that stand one behind the other, or the first defect in one.
+pub fn items_end<I: Item>(s: &[u8], at: usize, count: u64) -> Reading<usize>
+    ensures { result ≡ items_of (I.item s.now) count at }
 {
-    Tail::Due { n, low, high }
+    let mut p = at;
+    for _ in 0..count {
+        p = I::end(s, p)?;
+    }
+    Ok(p)
+}
+
+fn asks(n: u8, low: u8, high: u8) -> Option<Due>
+    ensures { result ≡ asks n low high }
+{
+    Some(Due { n, low, high })
 }
 
 #[tactic(auto, unfolding(crate::specs::Utf8::lead_of))]
-fn lead_of(c: u8) -> Tail
+fn lead_of(c: u8) -> Option<Due>
     ensures { result ≡ lead_of c }
 {
-    if c < 0x80 {
-        return due(0, 0x80, 0xbf);
+    match c {
+        0x00..=0x7f => asks(0, 0x80, 0xbf),
+        0xc2..=0xdf => asks(1, 0x80, 0xbf),
+        0xe0 => asks(2, 0xa0, 0xbf),
+        0xe1..=0xec => asks(2, 0x80, 0xbf),
+        0xed => asks(2, 0x80, 0x9f),
+        0xee..=0xef => asks(2, 0x80, 0xbf),
+        0xf0 => asks(3, 0x90, 0xbf),
+        0xf1..=0xf3 => asks(3, 0x80, 0xbf),
+        0xf4 => asks(3, 0x80, 0x8f),
+        _ => None,
     }
-    if c < 0xc2 {
-        return Tail::Never;
-    }
-    if c < 0xe0 {
-        return due(1, 0x80, 0xbf);
-    }
-    if c == 0xe0 {
-        return due(2, 0xa0, 0xbf);
-    }
-    if c < 0xed {
-        return due(2, 0x80, 0xbf);
-    }
-    if c == 0xed {
-        return due(2, 0x80, 0x9f);
-    }
-    if c < 0xf0 {
-        return due(2, 0x80, 0xbf);
-    }
-    if c == 0xf0 {
-        return due(3, 0x90, 0xbf);
-    }
-    if c < 0xf4 {
-        return due(3, 0x80, 0xbf);
-    }
-    if c == 0xf4 {
-        return due(3, 0x80, 0x8f);
-    }
-    Tail::Never
 }
 
-fn step(c: u8, due: u8, low: u8, high: u8) -> Tail
-    ensures { result ≡ step_of c due low high }
+#[tactic(auto, unfolding(crate::specs::Utf8::step_of))]
+fn step(c: u8, asked: Due) -> Option<Due>
+    ensures { result ≡ step_of c asked }
 {
-    if due == 0 {
+    if asked.n == 0 {
         return lead_of(c);
     }
-    if c < low {
-        return Tail::Never;
+    if c < asked.low {
+        return None;
     }
-    if high < c {
-        return Tail::Never;
+    if asked.high < c {
+        return None;
     }
-    Tail::Due {
-        n: due - 1,
-        low: 0x80,
-        high: 0xbf,
-    }
+    asks(asked.n - 1, 0x80, 0xbf)
 }
 
 pub fn is_utf8(s: &[u8]) -> bool
     ensures { result ≡ utf8 s.now }
 {
-    let mut due: u8 = 0;
-    let mut low: u8 = 0x80;
-    let mut high: u8 = 0xbf;
-    let mut i: usize = 0;
-    while i < s.len() {
-        match step(s[i], due, low, high) {
-            Tail::Never => {
-                return false;
-            }
-            Tail::Due { n, low: l, high: h } => {
-                due = n;
-                low = l;
-                high = h;
-            }
-        }
-        i += 1;
+    let mut asked = Due {
+        n: 0,
+        low: 0x80,
+        high: 0xbf,
+    };
+    for &c in s {
+        let Some(next) = step(c, asked) else {
+            return false;
+        };
+        asked = next;
     }
-    due == 0
+    asked.n == 0
 }
 
 // n bytes from `next` on; the head stands at `at`.
-fn run(s: &[u8], at: usize, next: usize, n: u64) -> Item
+#[tactic(auto, unfolding(crate::specs::Reading::run_of))]
+fn run(s: &[u8], at: usize, next: usize, n: u64) -> Reading<usize>
     requires { next ≤ length s.now }
     ensures { result ≡ run_of s.now at next n }
 {
     if s.len() - next < n as usize {
-        return Item::Bad { kind: CBOR, at };
+        return Err(Defect {
+            kind: Kind::Cbor,
+            at,
+        });
     }
-    Item::End {
-        next: next + n as usize,
-    }
+    Ok(next + n as usize)
 }
 
-fn text(s: &[u8], at: usize, next: usize, n: u64) -> Item
+#[tactic(auto, unfolding(crate::specs::Reading::run_of, crate::specs::Reading::text_of))]
+fn text(s: &[u8], at: usize, next: usize, n: u64) -> Reading<usize>
     requires { next ≤ length s.now }
     ensures { result ≡ text_of s.now at next n }
 {
-    let k = n as usize;
-    if s.len() - next < k {
-        return Item::Bad { kind: CBOR, at };
-    }
-    let end = next + k;
+    let end = run(s, at, next, n)?;
     if is_utf8(&s[next..end]) {
-        return Item::End { next: end };
+        return Ok(end);
     }
-    Item::Bad {
-        kind: CBOR,
+    Err(Defect {
+        kind: Kind::Cbor,
         at: next,
-    }
+    })
 }
 
 // One value at `at`, with `depth` levels of arrays left.
 #[cycle(items_read_value)]
 #[tactic(auto, using(crate::proofs::ItemReads::too_small, crate::proofs::ItemReads::simple, crate::proofs::ItemReads::too_large))]
-pub fn read_value(s: &[u8], at: usize, depth: u8) -> Item
+pub fn read_value(s: &[u8], at: usize, depth: u8) -> Reading<usize>
     ensures { result ≡ value_of depth s.now at }
 {
-    match cbor_heads::read_head(s, at) {
-        Head::Bad { at: a } => Item::Bad { kind: CBOR, at: a },
-        Head::Got {
-            major,
-            value: n,
-            next,
-        } => match major {
-            major::UNSIGNED | major::NEGATIVE => Item::End { next },
-            major::BYTES => run(s, at, next, n),
-            major::TEXT => text(s, at, next, n),
-            major::ARRAY => {
-                if depth == 0 {
-                    Item::Bad { kind: BOUNDS, at }
-                } else {
-                    items(s, next, n, depth - 1)
-                }
+    let Head {
+        major,
+        value: n,
+        next,
+    } = cbor_heads::read_head(s, at)?;
+    match major {
+        major::UNSIGNED | major::NEGATIVE => Ok(next),
+        major::BYTES => run(s, at, next, n),
+        major::TEXT => text(s, at, next, n),
+        major::ARRAY => {
+            if depth == 0 {
+                Err(Defect {
+                    kind: Kind::Bounds,
+                    at,
+                })
+            } else {
+                items(s, next, n, depth - 1)
             }
-            major::SIMPLE => {
-                if n < major::FALSE {
-                    return Item::Bad { kind: CBOR, at };
-                }
-                if n <= major::NULL {
-                    return Item::End { next };
-                }
-                Item::Bad { kind: CBOR, at }
+        }
+        major::SIMPLE => {
+            if n < major::FALSE {
+                return Err(Defect {
+                    kind: Kind::Cbor,
+                    at,
+                });
             }
-            _ => Item::Bad { kind: CBOR, at },
-        },
+            if n <= major::NULL {
+                return Ok(next);
+            }
+            Err(Defect {
+                kind: Kind::Cbor,
+                at,
+            })
+        }
+        _ => Err(Defect {
+            kind: Kind::Cbor,
+            at,
+        }),
     }
 }
 
+// Not `items_end`: the check takes no recursion through a type parameter.
 #[cycle(items_read_value)]
-fn items(s: &[u8], at: usize, count: u64, depth: u8) -> Item
+fn items(s: &[u8], at: usize, count: u64, depth: u8) -> Reading<usize>
     ensures { result ≡ items_of (value_of depth s.now) count at }
 {
     let mut p = at;
-    let mut k = count;
-    while 0 < k {
-        match read_value(s, p, depth) {
-            Item::Bad { kind, at: a } => {
-                return Item::Bad { kind, at: a };
-            }
-            Item::End { next } => {
-                p = next;
-            }
-        }
-        k -= 1;
+    for _ in 0..count {
+        p = read_value(s, p, depth)?;
     }
-    Item::End { next: p }
+    Ok(p)
 }

@@ -4,11 +4,9 @@ use mathlib.Core.List.{List, [], ◌∷◌, ◌++◌}
 use Prim.Native.Nat.{ℕ, ◌+◌, ◌-◌, ◌≤◌, ◌<◌}
 use native.Mathlib.Numerals.{add-one}
 use native.Mathlib.Omega.{arith}
-use borrow.Author.Tests.{le-leb}
 use borrow.Rule.Slice.PartMut.{put_mid}
-use lib.ListN.{length, take, drop, set, length-set, length-drop}
-use lib.Seq.{set_split, take_all}
-use Rattle.basis.specs.Basis.{Written}
+use lib.ListN.{length, take, drop, set, length-set, length-take, length-drop}
+use lib.Seq.{set_split}
 use Rattle.basis.proofs.Rooms.{lent}
 use Rattle.cbor_heads.specs.Heads.{big, head}
 use Rattle.cbor_heads.proofs.HeadLaws.{bytes_length}
@@ -16,23 +14,15 @@ use Rattle.cbor_writing.specs.Placing.{placed, Placed}
 use Rattle.cbor_writing.specs.Inner.{Formed}
 use Rattle.cbor_writing.proofs.PlacingLaws.{placed_more}
 
--- the part has room, so all is written
-pub put_placed : (text room p : List ℕ) (at : ℕ) {r : ℕ} → at + length text ≤ length room
-    → Written text (take (length room - at) (drop at room)) r p → Placed text room at (at + r) (put_mid at (length room - at) room p)
-put_placed text room p at h w =
-    let part : take (length room - at) (drop at room) ≡ drop at room =
-    take_all (length room - at) (drop at room) (simp length-drop (omega arith)) in
-    let fits : length text ≤ length (take (length room - at) (drop at room)) = rw (part, length-drop) (omega arith) in
-    record {
-      behind = ap (λ (k : ℕ). at + k) (w.counted ∙ rw (le-leb _ _ fits));
-      content = lent room text p at h (w.content ∙ rw (le-leb _ _ fits));
-    }
-
 placed_one : (e : List ℕ) (at b : ℕ) → at < length e → set e at b ≡ placed (b ∷ []) at e
 placed_one e at b h = set_split e at b h ∙ rw add-one
 
 pub formed_length : {major n first k : ℕ} → Formed major n first k → length (head major n) ≡ 1 + k
 formed_length {major} {n} {first} {k} f = ap length f.bytes ∙ omega (arith, bytes_length k n)
+
+-- what is left behind a head's first byte holds the others
+pub behind_first : (e : List ℕ) (at first k : ℕ) → at + (1 + k) ≤ length e → k ≤ length (take (length (set e at first) - (at + 1)) (drop (at + 1) (set e at first)))
+behind_first e at first k h = simp (length-take, length-drop, length-set) (omega arith)
 
 pub head_placed : (e p : List ℕ) (at : ℕ) {major n first k : ℕ} → Formed major n first k → at + length (head major n) ≤ length e
     → p ≡ big k n ++ drop k (take (length (set e at first) - (at + 1)) (drop (at + 1) (set e at first)))
@@ -49,3 +39,5 @@ head_placed e p at {major} {n} {first} {k} f h g =
           ∙ placed_more (first ∷ []) (big k n) e at (omega arith)
           ∙ ap (λ (x : List ℕ). placed x at e) (sym f.bytes);
     }
+
+pub ruleset heads = (formed_length, behind_first, head_placed)

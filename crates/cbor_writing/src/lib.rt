@@ -15,78 +15,60 @@ pub struct Form {
     pub k: usize,
 }
 
+#[tactic(auto, using(crate::proofs::Forms::forms))]
 fn form_of(major: u8, n: u64) -> Form
     requires { major < 8 }
     ensures { Formed major n result.first result.k }
 {
-    let top = major * 32;
-    if n < 24 {
-        return Form {
-            first: top + (n % 24) as u8,
-            k: 0,
-        };
-    }
-    if n < 256 {
-        return Form {
-            first: top + 24,
-            k: 1,
-        };
-    }
-    if n < 65536 {
-        return Form {
-            first: top + 25,
-            k: 2,
-        };
-    }
-    if n < 4294967296 {
-        return Form {
-            first: top + 26,
-            k: 4,
-        };
-    }
+    let (low, k) = match n {
+        0..=23 => (n as u8, 0),
+        24..=0xff => (24, 1),
+        0x100..=0xffff => (25, 2),
+        0x1_0000..=0xffff_ffff => (26, 4),
+        _ => (27, 8),
+    };
     Form {
-        first: top + 27,
-        k: 8,
+        first: major * 32 + low,
+        k,
     }
 }
 
 // How long a head is, of whatever major type.
+#[tactic(auto, using(crate::proofs::Writers::formed_length))]
 pub fn head_length(n: u64) -> usize
     ensures { result ≡ length (head 0 n) }
 {
-    let form = form_of(0, n);
-    1 + form.k
+    1 + form_of(0, n).k
 }
 
 // The k lowest bytes of n, the highest first, at the front of the room.
+#[tactic(auto, using(crate::proofs::BigLoop::put_step, crate::proofs::BigLoop::put_end))]
 fn put_big(room: &mut [u8], k: usize, n: u64)
     requires { k ≤ length room.old }
     ensures { room.new ≡ big k n ++ drop k room.old }
 {
     let mut v = n;
-    let mut i = k;
-    while 0 < i {
-        i -= 1;
+    for i in (0..k).rev() {
         room[i] = (v % 256) as u8;
-        v = v / 256;
+        v /= 256;
     }
 }
 
+// Room and place stay two parameters, here and below: each contract is on both, and a struct would hide the lent room.
 pub fn put_at(room: &mut [u8], at: usize, text: &[u8]) -> usize
     requires { at + length text.now ≤ length room.old }
     ensures { Placed text.now room.old at result room.new }
 {
-    let n = basis::put(text, &mut room[at..]);
-    at + n
+    at + basis::copy(text, &mut room[at..])
 }
 
+#[tactic(auto, using(crate::proofs::Writers::heads))]
 pub fn put_head(room: &mut [u8], at: usize, major: u8, n: u64) -> usize
     requires { (major < 8) × (at + length (head major n) ≤ length room.old) }
     ensures { Placed (head major n) room.old at result room.new }
 {
-    let form = form_of(major, n);
-    let k = form.k;
-    room[at] = form.first;
+    let Form { first, k } = form_of(major, n);
+    room[at] = first;
     put_big(&mut room[at + 1..], k, n);
     at + 1 + k
 }

@@ -1,8 +1,6 @@
 -- The keys of each map stand in the bytewise order of their encodings (RFC 8949, 4.2.1), which is the order that document 01's readings ask
 -- for: by computation, over the order that the rows of a table have.
-use mathlib.Core.Path.{◌≡◌, refl}
-use mathlib.Core.Bool.{Bool, true, false}
-use mathlib.Core.List.{List, [], ◌∷◌}
+use Rattle.std.specs.Prelude.{◌≡◌, refl, Bool, true, false, List, [], ◌∷◌}
 use Prim.Native.String.{String}
 use Rattle.basis.specs.Basis.{pick, ascii}
 use Rattle.cbor_heads.specs.Heads.{big, head}

@@ -2,29 +2,17 @@
 // or the name of the first defect and its place.
 #![tactic(auto)]
 
-use answers::Listed;
-use text_reading::Decoded;
-use token::TokenParts;
-use token_caveat_values::{CaveatAt, CaveatParts};
-use token_scope::ScopeParts;
+use answers::Answer;
+use cbor_heads::defect::Defect;
+use text_reading::Undecoded;
+use token_caveat_values::CaveatAt;
 
-fn print_name(rt: &impl Print, kind: u32) {
-    match answers::answer_of(kind) {
-        Listed::Free => {
-            let _ = rt.write_all(b"?");
-        }
-        Listed::Of(answer) => {
-            let mut room = [0u8; 32];
-            let n = answers::name(answer, &mut room);
-            let end = basis::least(n, 32);
-            let _ = rt.write_all(&room[..end]);
-        }
-    }
+fn print_answer(rt: &impl Print, answer: Answer, at: usize) {
+    let _ = println!(rt; "{answer} at {at}");
 }
 
-fn print_defect(rt: &impl Print, kind: u32, at: usize) {
-    print_name(rt, kind);
-    let _ = println!(rt; " at {at}");
+fn print_defect(rt: &impl Print, defect: Defect) {
+    print_answer(rt, defect.into(), defect.at);
 }
 
 fn print_read(rt: &impl Print, n: usize) {
@@ -38,8 +26,8 @@ fn print_number(rt: &impl Print, n: usize, number: u64) {
 fn show_caveat(rt: &impl Print, label: &[u8], s: &[u8]) {
     let _ = rt.write_all(label);
     match token_caveat::read_caveat(s) {
-        CaveatParts::Bad { kind, at } => print_defect(rt, kind, at),
-        CaveatParts::Of { caveat, next } => match caveat {
+        Err(defect) => print_defect(rt, defect),
+        Ok((caveat, next)) => match caveat {
             CaveatAt::Exp { n } => print_number(rt, next, n),
             _ => print_read(rt, next),
         },
@@ -49,15 +37,15 @@ fn show_caveat(rt: &impl Print, label: &[u8], s: &[u8]) {
 fn show_scope(rt: &impl Print, label: &[u8], s: &[u8]) {
     let _ = rt.write_all(label);
     match token_scope::read_scope(s, 0) {
-        ScopeParts::Bad { kind, at } => print_defect(rt, kind, at),
-        ScopeParts::Of { scope: _, next } => print_read(rt, next),
+        Err(defect) => print_defect(rt, defect),
+        Ok((_, next)) => print_read(rt, next),
     }
 }
 
 fn show_bytes(rt: &impl Print, s: &[u8]) {
     match token::read_token(s) {
-        TokenParts::Bad { kind, at } => print_defect(rt, kind, at),
-        _ => print_read(rt, s.len()),
+        Err(defect) => print_defect(rt, defect),
+        Ok(_) => print_read(rt, s.len()),
     }
 }
 
@@ -66,12 +54,9 @@ fn show_token(rt: &impl Print, label: &[u8], text: &[u8]) {
     let _ = rt.write_all(label);
     let mut room = [0u8; 4096];
     match text_reading::decode(text, &mut room) {
-        Decoded::Bad { at } => print_defect(rt, 3, at),
-        Decoded::Short => print_defect(rt, 5, 0),
-        Decoded::Bytes { n } => {
-            let end = basis::least(n, 4096);
-            show_bytes(rt, &room[..end]);
-        }
+        Err(Undecoded::Bad { at }) => print_answer(rt, Answer::ParseB64, at),
+        Err(Undecoded::Short) => print_answer(rt, Answer::ParseBounds, 0),
+        Ok(n) => show_bytes(rt, &room[..n.min(4096)]),
     }
 }
 

@@ -8,20 +8,14 @@
 // official crate.
 #![tactic(auto)]
 
-use answers::Listed;
+use answers::Answer;
 
+// The exported function answers a number; one that no answer has would print as "?".
 fn print_name(rt: &impl Print, number: u32) {
-    match answers::answer_of(number) {
-        Listed::Free => {
-            let _ = rt.write_all(b"?");
-        }
-        Listed::Of(answer) => {
-            let mut room = [0u8; 32];
-            let n = answers::name(answer, &mut room);
-            let end = basis::least(n, 32);
-            let _ = rt.write_all(&room[..end]);
-        }
-    }
+    let _ = match Answer::try_from(number) {
+        Ok(answer) => print!(rt; "{answer}"),
+        Err(_) => print!(rt; "?"),
+    };
 }
 
 fn show(rt: &impl Print, label: &[u8], table: &[u8], request: &[u8], token: &[u8]) {

@@ -2,29 +2,18 @@
 use mathlib.Core.Path.{◌≡◌, refl, sym, ap, ap₂, ◌∙◌}
 use mathlib.Core.Bool.{Bool, true, false}
 use mathlib.Core.List.{List, [], ◌∷◌, ◌++◌, append-nil}
-use Prim.Native.Nat.{ℕ, zero, suc, ◌+◌, ◌-◌, ◌*◌, ◌/◌, ◌%◌, ◌≤◌, ◌<◌, min}
+use Prim.Native.Nat.{ℕ, zero, suc, ◌+◌, ◌-◌, ◌*◌, ◌/◌, ◌%◌, ◌≤◌, ◌<◌, min, max}
 use native.Mathlib.Omega.{arith}
-use borrow.Author.Tests.{le-leb, lt-leb, leb-true, leb-false, ltb-true, ltb-false}
-use lib.Dec.{leb, ltb}
-use lib.ListN.{length, take, drop, get_or, replicate, length-append, length-drop}
+use borrow.Author.Tests.{le-leb, lt-leb, le-ltb, lt-ltb, eq-eqb, ne_eqb, leb-true, leb-false, ltb-true, ltb-false}
+use lib.Dec.{eqb, leb, ltb}
+use lib.ListN.{length, take, drop, get_or, replicate, length-drop}
 use lib.Seq.{take-append-le, drop-append-le, take-append-add, drop-append-add, take_all, drop-drop, get_or-drop, drop-length, take-length}
 use borrow.Rule.Slice.PartMut.{put_mid}
-use Rattle.basis.specs.Basis.{pick, tab, over}
-use Rattle.basis.specs.Tabs.{tab_all, tab_same}
+use Rattle.basis.specs.Basis.{pick, over}
+use Rattle.basis.specs.Tabs.{tab_same}
 use Rattle.basis.proofs.Rooms.{lent_over}
 use Rattle.hash_mixing.specs.Compression.{compress_of}
 use Rattle.hash_chunks.specs.Chunks.{words_of, keyed, parent_flag, last_of, blocks_of, parent_of}
-
--- two halves of sixteen words
-eight : (s : List ℕ) → length s ≡ 8
-    → get_or s 0 0 ∷ get_or s 1 0 ∷ get_or s 2 0 ∷ get_or s 3 0 ∷ get_or s 4 0 ∷ get_or s 5 0 ∷ get_or s 6 0 ∷ get_or s 7 0 ∷ [] ≡ s
-unfolding tab
-eight s h = tab_all 8 s h
-
-pub both : (a b : List ℕ) → length a ≡ 8 → length b ≡ 8
-    → get_or a 0 0 ∷ get_or a 1 0 ∷ get_or a 2 0 ∷ get_or a 3 0 ∷ get_or a 4 0 ∷ get_or a 5 0 ∷ get_or a 6 0 ∷ get_or a 7 0
-    ∷ get_or b 0 0 ∷ get_or b 1 0 ∷ get_or b 2 0 ∷ get_or b 3 0 ∷ get_or b 4 0 ∷ get_or b 5 0 ∷ get_or b 6 0 ∷ get_or b 7 0 ∷ [] ≡ a ++ b
-both a b h g = ap₂ (λ (x y : List ℕ). x ++ y) (eight a h) (eight b g)
 
 -- zeros behind a message change none of its words
 zero_at : (n i : ℕ) → ◌≡◌ {A = ℕ} (get_or (replicate n 0) i 0) 0
@@ -37,7 +26,7 @@ padded_at [] z h i = h i
 padded_at (x ∷ s) z h zero = refl
 padded_at (x ∷ s) z h (suc i) = padded_at s z h i
 
-pub padded : (n : ℕ) (s : List ℕ) (k m : ℕ) → words_of n (s ++ drop k (replicate m 0)) ≡ words_of n s
+padded : (n : ℕ) (s : List ℕ) (k m : ℕ) → words_of n (s ++ drop k (replicate m 0)) ≡ words_of n s
 padded n s k m =
     let same = padded_at s (drop k (replicate m 0)) (λ j. get_or-drop k (replicate m 0) j 0 ∙ zero_at m (k + j)) in
     tab_same n (λ i. rw (same (i * 4), same (i * 4 + 1), same (i * 4 + 2), same (i * 4 + 3)))
@@ -53,7 +42,7 @@ laid head body x p n h en lx ex ep =
     ap (words_of 16) (rw lx at (lent_over head body (replicate 64 0) x p n en h one lx two)) ∙ padded 16 (head ++ body) (length (head ++ body)) 64
 
 -- the first n elements of two parts are as many of the first as it has, then some of the second; and so what is left
-pub cut : (n : ℕ) (x y : List ℕ)
+cut : (n : ℕ) (x y : List ℕ)
     → (take n (x ++ y) ≡ take (min n (length x)) x ++ take (n - min n (length x)) y)
     × (drop n (x ++ y) ≡ drop (min n (length x)) x ++ drop (n - min n (length x)) y)
 cut n x y = by (leb n (length x)) refl
@@ -95,99 +84,69 @@ back a n i e p q r = omega arith
 grows : (a n l : ℕ) → (min a l ≤ min (a + n) l) × (min (a + n) l ≤ min a l + n) × (min a l ≤ a)
 grows a n l = (omega arith, omega arith, omega arith)
 
--- n elements from `at` on, as they lie in two parts
-pub parted : (x y : List ℕ) (at n : ℕ)
-    → take n (drop at (x ++ y))
-    ≡ take (min (at + n) (length x) - min at (length x)) (drop (min at (length x)) x)
-    ++ take (at + n - min (at + n) (length x) - (at - min at (length x))) (drop (at - min at (length x)) y)
-parted x y at n =
-    let i = min at (length x) in
-    let g = grows at n (length x) in
-    let f : min n (length (drop i x)) ≡ min (at + n) (length x) - i = rw length-drop (front at n (length x)) in
-    let b = back at n i (min (at + n) (length x)) g.2 g.0 g.1 in
-    ap (take n) (cut at x y).1 ∙ (rw (f, b) at (cut n (drop i x) (drop (at - i) y)).0)
+-- the elements from `from` to `to`, as they lie in two parts
+pub parted : (x y : List ℕ) (from to : ℕ) → from ≤ to
+    → take (min to (length x) - min from (length x)) (drop (min from (length x)) x)
+    ++ take (to - min to (length x) - (from - min from (length x))) (drop (from - min from (length x)) y)
+    ≡ take (to - from) (drop from (x ++ y))
+parted x y from to h =
+    let n = to - from in
+    let e : from + (to - from) ≡ to = omega arith in
+    let i = min from (length x) in
+    let g = grows from n (length x) in
+    let f : min n (length (drop i x)) ≡ min (from + n) (length x) - i = rw length-drop (front from n (length x)) in
+    let b = back from n i (min (from + n) (length x)) g.2 g.0 g.1 in
+    sym (rw e at (ap (take n) (cut from x y).1 ∙ (rw (f, b) at (cut n (drop i x) (drop (from - i) y)).0)))
 
--- behind the first part all of them lie in the second
-pub behind : (x y : List ℕ) (at n : ℕ) → length x ≤ at → take n (drop at (x ++ y)) ≡ take (at - length x + n - (at - length x)) (drop (at - length x) y)
-behind x y at n h =
-    let k : at ≡ length x + (at - length x) = omega arith in
-    let z : at - length x + n - (at - length x) ≡ n = omega arith in
-    rw z (ap (λ (j : ℕ). take n (drop j (x ++ y))) k ∙ ap (take n) (drop-append-add x y (at - length x)))
+-- what the run's loop keeps: the first i of n blocks are compressed into h
+abbrev pub run_of : ℕ → List ℕ → List ℕ → ℕ → ℕ → ℕ → ℕ → List ℕ
+run_of n h s counter first last i = pick (ltb i n) (blocks_of (15 - i) h (drop (i * 64) s) counter (pick (eqb i 0) first 0) last) h
 
-fewer : (at : ℕ) → at % 64 ≡ 0 → at + 64 < 1024 → 15 - at / 64 ≡ suc (15 - (at + 64) / 64)
-fewer at h g = omega arith
+-- all of them are, or the block i is compressed next
+module _ (s : List ℕ) (counter first last n : ℕ) (short : length s ≤ 1024) (en : n ≡ max (length s / 64 + min 1 (length s % 64)) 1) where
+  pub run_start : (h : List ℕ) → run_of n h s counter first last 0 ≡ blocks_of 15 h s counter first last
+  run_start h = let some : 0 < n = omega arith in rw (lt-ltb 0 n some) refl
 
-next_whole : (at : ℕ) → at % 64 ≡ 0 → (at + 64) % 64 ≡ 0
-next_whole at h = omega arith
+  pub run_end : (h : List ℕ) (i : ℕ) → n ≤ i → run_of n h s counter first last i ≡ h
+  run_end h i g = rw (le-ltb i n g) refl
 
--- what a turn of the run's loop keeps: the first `at` bytes are compressed into h, in whole blocks, or all of them and the run is done
-pub record Running (key head body : List ℕ) (counter first last : ℕ) (h : List ℕ) (start at : ℕ) (more : Bool) : Type 0 where
-  pub short : length head + length body ≤ 1024
-  pub inside : at ≤ length head + length body
-  pub flag : start ≤ 4
-  pub whole : more ≡ true → at % 64 ≡ 0
-  pub rest : pick more (blocks_of (15 - at / 64) h (drop at (head ++ body)) counter start last) h ≡ blocks_of 15 key (head ++ body) counter first last
+  module _ (h next : List ℕ) (i e start stop : ℕ) (inside : i < n) (ee : e ≡ min (length s) (i * 64 + 64))
+      (es : start ≡ pick (eqb i 0) first 0) (et : stop ≡ pick (eqb (i + 1) n) last 0)
+      (p : next ≡ compress_of h (words_of 16 (take (e - i * 64) (drop (i * 64) s))) counter (e - i * 64) (keyed + start + stop)) where
+    left : List ℕ
+    left = drop (i * 64) s
 
-module _ (key head body : List ℕ) (counter first last : ℕ) where
-  pub run_start : length head + length body ≤ 1024 → first ≤ 4 → Running key head body counter first last key first 0 true
-  run_start h f = record { short = h; inside = omega arith; flag = f; whole = λ e. refl; rest = refl }
+    more : i + 1 < n → run_of n next s counter first last (i + 1) ≡ run_of n h s counter first last i
+    unfolding left
+    more g =
+        let size : length left ≡ length s - i * 64 = length-drop (i * 64) s in
+        let whole : e - i * 64 ≡ 64 = omega arith in
+        let none : stop ≡ 0 = et ∙ rw (ne_eqb (i + 1) n (λ z. omega arith)) refl in
+        let flags : keyed + start + 0 ≡ keyed + start = omega arith in
+        let fewer : suc (15 - (i + 1)) ≡ 15 - i = omega arith in
+        let next_at : i * 64 + 64 ≡ (i + 1) * 64 = omega arith in
+        let state : next ≡ compress_of h (words_of 16 (take 64 left)) counter 64 (keyed + start) = rw (whole, none, flags) at p in
+        rw (lt-ltb (i + 1) n g, lt-ltb i n inside, ne_eqb (i + 1) 0 (λ z. omega arith), ← es, ← fewer) (
+        ap₂ (λ (x y : List ℕ). blocks_of (15 - (i + 1)) x y counter 0 last) state (sym (drop-drop 64 (i * 64) s ∙ ap (λ (j : ℕ). drop j s) next_at))
+        ∙ block_more (15 - (i + 1)) h left counter start last (omega arith)
+        )
 
-  module _ (h : List ℕ) (start at : ℕ) (t : Running key head body counter first last h start at true) where
-    left_length : length (drop at (head ++ body)) ≡ length head + length body - at
-    left_length = length-drop at (head ++ body) ∙ ap (λ (n : ℕ). n - at) (length-append head body)
+    done : n ≡ i + 1 → run_of n next s counter first last (i + 1) ≡ run_of n h s counter first last i
+    unfolding left
+    done g =
+        let size : length left ≡ length s - i * 64 = length-drop (i * 64) s in
+        let all : e - i * 64 ≡ length left = omega arith in
+        let end : stop ≡ last = et ∙ rw (eq-eqb (i + 1) n (sym g)) refl in
+        let words : take (length left) left ≡ left = take_all (length left) left (omega arith) in
+        rw (le-ltb (i + 1) n (omega arith), lt-ltb i n inside, ← es)
+        ((rw (all, end, words) at p) ∙ block_last (15 - i) h left counter start last (omega arith))
 
-    turn : (n : ℕ) (next : List ℕ) → n ≡ min 64 (length head + length body - at) → (b : Bool) → ltb (at + n) (length head + length body) ≡ b
-        → next ≡ compress_of h (words_of 16 (take n (drop at (head ++ body)))) counter n (keyed + start + pick b 0 last)
-        → Running key head body counter first last next 0 (at + n) b
-    turn n next en true e p =
-        let g : at + n < length head + length body = ltb-true _ _ e in
-        let whole : n ≡ 64 = omega arith in
-        let w = t.whole refl in
-        let none : keyed + start + 0 ≡ keyed + start = omega arith in
-        let more : 64 < length (drop at (head ++ body)) = rw left_length (omega arith) in
-        let state : next ≡ compress_of h (words_of 16 (take 64 (drop at (head ++ body)))) counter 64 (keyed + start) = rw (whole, none) at p in
-        record {
-          short = t.short;
-          inside = omega arith;
-          flag = omega arith;
-          whole = λ x. rw whole (next_whole at w);
-          rest =
-              rw whole (
-              ap₂ (λ (x y : List ℕ). blocks_of (15 - (at + 64) / 64) x y counter 0 last) state (sym (drop-drop 64 at (head ++ body)))
-              ∙ block_more (15 - (at + 64) / 64) h (drop at (head ++ body)) counter start last more
-              ∙ (rw (fewer at w (omega arith)) at t.rest)
-              );
-        }
-    turn n next en false e p =
-        let g : length head + length body ≤ at + n = ltb-false _ _ e in
-        let all : n ≡ length (drop at (head ++ body)) = rw left_length (omega arith) in
-        let few : length (drop at (head ++ body)) ≤ 64 = rw left_length (omega arith) in
-        let words : take n (drop at (head ++ body)) ≡ drop at (head ++ body) = take_all n (drop at (head ++ body)) (omega arith) in
-        record {
-          short = t.short;
-          inside = omega arith;
-          flag = omega arith;
-          whole = λ x. let z : ◌≡◌ {A = ℕ} 0 1 = cc in omega arith;
-          rest = rw (words, all) at p ∙ block_last (15 - at / 64) h (drop at (head ++ body)) counter start last few ∙ t.rest;
-        }
-
-    pub run_turn : (n : ℕ) (m next : List ℕ) (f : ℕ) → n ≡ min 64 (length head + length body - at) → m ≡ words_of 16 (take n (drop at (head ++ body)))
-        → f ≡ pick (ltb (at + n) (length head + length body)) 0 last → next ≡ compress_of h m counter n (keyed + start + f)
-        → Running key head body counter first last next 0 (at + n) (ltb (at + n) (length head + length body))
-    run_turn n m next f en em ef p =
-        turn n next en (ltb (at + n) (length head + length body)) refl (p ∙ ap₂ (λ (x : List ℕ) (y : ℕ). compress_of h x counter n (keyed + start + y)) em ef)
-
-  -- at the end of the loop the chaining value is the run's
-  pub run_end : (h : List ℕ) (start at : ℕ) → Running key head body counter first last h start at false → h ≡ blocks_of 15 key (head ++ body) counter first last
-  run_end h start at t = t.rest
-
--- a turn takes bytes, or is the last one
-pub run_less : (at n total : ℕ) → n ≡ min 64 (total - at) → total - (at + n) + pick (ltb (at + n) total) 1 0 < total - at + 1
-run_less at n total e = by (ltb (at + n) total) refl
-  where
-    by : (b : Bool) → ltb (at + n) total ≡ b → total - (at + n) + pick b 1 0 < total - at + 1
-    by true t = let h : at + n < total = ltb-true _ _ t in omega arith
-    by false t = let h : total ≤ at + n = ltb-false _ _ t in omega arith
+    pub run_turn : run_of n next s counter first last (i + 1) ≡ run_of n h s counter first last i
+    run_turn = by (ltb (i + 1) n) refl
+      where
+        by : (b : Bool) → ltb (i + 1) n ≡ b → run_of n next s counter first last (i + 1) ≡ run_of n h s counter first last i
+        by true t = more (ltb-true _ _ t)
+        by false t = let g : n ≤ i + 1 = ltb-false _ _ t in done (omega arith)
 
 -- a parent is a run of one block, the bytes of its children
 pub parent_run : (key bytes a b r : List ℕ) (root : ℕ) → length bytes ≡ 64 → words_of 16 bytes ≡ a ++ b → r ≡ blocks_of 15 key bytes 0 parent_flag root

@@ -1,3 +1,3 @@
 pub mod Blocks
-pub mod Bytes
+pub mod LowFirst
 pub mod OneAnswer

@@ -1,6 +1,6 @@
 -- Meaning. BLAKE3's chunks and parents in keyed mode, on lists of bytes, as the BLAKE3 paper has them in sections 2.1, 2.4 and 2.5;
 -- document 01, "Chain", has their sizes and flags.
-use Rattle.std.specs.Prelude.{List, ◌++◌, ℕ, zero, suc, ◌+◌, ◌*◌, length, take, drop, get_or, leb}
+use Rattle.std.specs.Prelude.{List, ◌++◌, ℕ, zero, suc, ◌+◌, ◌*◌, ◌/◌, ◌%◌, ◌^◌, length, take, drop, get_or, leb}
 use Rattle.basis.specs.Basis.{pick, tab}
 use Rattle.hash_mixing.specs.Compression.{compress_of}
 
@@ -26,6 +26,13 @@ le32 s at = get_or s at 0 + get_or s (at + 1) 0 * 256 + get_or s (at + 2) 0 * 65
 
 abbrev pub words_of : ℕ → List ℕ → List ℕ
 words_of n s = tab n (λ i. le32 s (i * 4))
+
+-- the 32 bytes of eight words, each with its low byte first
+abbrev pub byte_of : ℕ → ℕ → ℕ
+byte_of x k = x / 256 ^ k % 256
+
+abbrev pub bytes_of_words : List ℕ → List ℕ
+bytes_of_words w = tab 32 (λ i. byte_of (get_or w (i / 4) 0) (i % 4))
 
 -- the last block of a chunk: what is left, at most 64 bytes
 abbrev pub last_of : List ℕ → List ℕ → ℕ → ℕ → ℕ → List ℕ

@@ -4,7 +4,7 @@ use Rattle.std.specs.Prelude.{ℕ, zero, suc, ◌+◌, ◌-◌, ◌*◌, ◌/◌
 use Rattle.hash_mixing.specs.declared.Quad.{Quad}
 
 -- 01: "sums of 32-bit words drop the carry past the top"
-unfoldable pub plus : ℕ → ℕ → ℕ
+abbrev pub plus : ℕ → ℕ → ℕ
 plus x y = (x + y) % 2 ^ 32
 
 -- 01: "turned right by 16, 12, 8 and 7 places": the n low bits go to the top
@@ -13,27 +13,17 @@ turn n x = x / 2 ^ n + x % 2 ^ n * 2 ^ (32 - n)
 
 -- one half of the paper's function G, which mixes the message word x into the words a, b, c, d of the state:
 -- a := a + b + x; d := (d xor a) turned by n; c := c + d; b := (b xor c) turned by k
-unfoldable pub half_a : ℕ → ℕ → ℕ → ℕ
-half_a a b x = plus (plus a b) x
-
-unfoldable pub half_d : ℕ → ℕ → ℕ → ℕ → ℕ → ℕ
-half_d a b d x n = turn n (bit_xor d (half_a a b x))
-
-unfoldable pub half_c : ℕ → ℕ → ℕ → ℕ → ℕ → ℕ → ℕ
-half_c a b c d x n = plus c (half_d a b d x n)
-
-unfoldable pub half_b : ℕ → ℕ → ℕ → ℕ → ℕ → ℕ → ℕ → ℕ
-half_b a b c d x n k = turn k (bit_xor b (half_c a b c d x n))
-
-unfoldable pub half_of : ℕ → ℕ → ℕ → ℕ → ℕ → ℕ → ℕ → Quad
-half_of a b c d x n k = record { a = half_a a b x; b = half_b a b c d x n k; c = half_c a b c d x n; d = half_d a b d x n }
+unfoldable pub half_of : Quad → ℕ → ℕ → ℕ → Quad
+half_of q x n k =
+    let a = plus (plus q.a q.b) x in
+    let d = turn n (bit_xor q.d a) in
+    let c = plus q.c d in
+    let b = turn k (bit_xor q.b c) in
+    record { a = a; b = b; c = c; d = d }
 
 -- G: the first half turns by 16 and 12, the second by 8 and 7
-unfoldable pub second_of : Quad → ℕ → Quad
-second_of q y = half_of q.a q.b q.c q.d y 8 7
-
 unfoldable pub mix_of : ℕ → ℕ → ℕ → ℕ → ℕ → ℕ → Quad
-mix_of a b c d x y = second_of (half_of a b c d x 16 12) y
+mix_of a b c d x y = half_of (half_of (record { a = a; b = b; c = c; d = d }) x 16 12) y 8 7
 
 -- G on the words a, b, c, d of the state v, with the words i and i + 1 of the message m
 abbrev pub mix_at : List ℕ → List ℕ → ℕ → ℕ → ℕ → ℕ → ℕ → Quad

@@ -1,7 +1,14 @@
--- Inner. The fixed order in which each round picks its words from the block. Document 02, M-102: "Pick the words by a fixed order
--- instead." The law `taken` holds it to `moved_of`, for every round and place.
-use Rattle.std.specs.Prelude.{ℕ, zero, suc, ◌<◌, List, [], ◌∷◌, slice_index, slice_index_or}
+-- Inner. The mixing in place, and the fixed order in which each round picks its words from the block. Document 02, M-102: "Pick the words
+-- by a fixed order instead." The law `taken` holds it to `moved_of`, for every round and place.
+use Rattle.std.specs.Prelude.{ℕ, zero, suc, ◌<◌, List, [], ◌∷◌, slice_index, slice_index_or, slice_set}
 use Rattle.basis.specs.Basis.{tab}
+use Rattle.hash_mixing.specs.Compression.{mix_of}
+
+-- G on the words a, b, c, d of the state v, which go back to their places
+unfoldable pub mixed_of : List ℕ → ℕ → ℕ → ℕ → ℕ → ℕ → ℕ → List ℕ
+mixed_of v a b c d x y =
+    let q = mix_of (slice_index v a) (slice_index v b) (slice_index v c) (slice_index v d) x y in
+    slice_set (slice_set (slice_set (slice_set v a q.a) b q.b) c q.c) d q.d
 
 -- round by round, the places of its words in the block
 abbrev pub orders : List (List ℕ)

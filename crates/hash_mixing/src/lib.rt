@@ -1,10 +1,10 @@
-// BLAKE3's compression function by value. State and message stay in arrays whose elements are read
-// one by one and written all at once, so that the compiler keeps them as single words throughout.
+// BLAKE3's compression function. The state is mixed in place. Once all is inlined, every place in it and in the block
+// is a constant, so that the compiler keeps state and message as single words throughout.
 #![tactic(auto)]
 
 ghost use Rattle.std.specs.Prelude.{◌≡◌, ◌<◌};
-ghost use Rattle.hash_mixing.specs.Compression.{plus, turn, half_of, mix_of, columns_of, diagonals_of, rounds_of, compress_of};
-ghost use Rattle.hash_mixing.specs.Order.{InBlock, picked_of};
+ghost use Rattle.hash_mixing.specs.Compression.{half_of, round_of, rounds_of, compress_of};
+ghost use Rattle.hash_mixing.specs.Order.{InBlock, picked_of, mixed_of};
 
 // Four words of the state on their way through the mixing.
 #[derive(Clone, Copy)]
@@ -15,107 +15,92 @@ struct Quad {
     d: u32,
 }
 
-fn add(x: u32, y: u32) -> u32
-    ensures { result ≡ plus x y }
-{
-    std::num::wrapping_add_u32(x, y)
-}
-
-fn turn_right(x: u32, n: u32) -> u32
-    requires { (0 < n) × (n < 32) }
-    ensures { result ≡ turn n x }
-{
-    (x >> n) ^ ((x & ((1 << n) - 1)) << (32 - n))
-}
-
-fn half(a: u32, b: u32, c: u32, d: u32, x: u32, n: u32, k: u32) -> Quad
-    requires { (0 < n) × (n < 32) × (0 < k) × (k < 32) }
-    ensures { result ≡ half_of a b c d x n k }
-{
-    let sum = add(add(a, b), x);
-    let turned = turn_right(d ^ sum, n);
-    let third = add(c, turned);
-    Quad {
-        a: sum,
-        b: turn_right(b ^ third, k),
-        c: third,
-        d: turned,
+impl Quad {
+    #[tactic(auto, using(crate::proofs::Turning::turned_xor), unfolding(crate::specs::Compression::half_of))]
+    fn half(self, x: u32, n: u32, k: u32) -> Quad
+        requires { (0 < n) × (n < 32) × (0 < k) × (k < 32) }
+        ensures { result ≡ half_of self x n k }
+    {
+        let a = self.a.wrapping_add(self.b).wrapping_add(x);
+        let d = (self.d ^ a).rotate_right(n);
+        let c = self.c.wrapping_add(d);
+        let b = (self.b ^ c).rotate_right(k);
+        Quad { a, b, c, d }
     }
 }
 
-fn mix(a: u32, b: u32, c: u32, d: u32, x: u32, y: u32) -> Quad
-    ensures { result ≡ mix_of a b c d x y }
+// The words a, b, c, d of the state, mixed with the words x and y of the message.
+#[inline(always)]
+#[tactic(auto, unfolding(crate::specs::Compression::mix_of, crate::specs::Order::mixed_of))]
+fn mix(v: &mut [u32; 16], a: usize, b: usize, c: usize, d: usize, x: u32, y: u32)
+    requires { (a < 16) × (b < 16) × (c < 16) × (d < 16) }
+    ensures { v.new ≡ mixed_of v.old a b c d x y }
 {
-    let q = half(a, b, c, d, x, 16, 12);
-    half(q.a, q.b, q.c, q.d, y, 8, 7)
+    let quad = Quad {
+        a: v[a],
+        b: v[b],
+        c: v[c],
+        d: v[d],
+    };
+    let mixed = quad.half(x, 16, 12).half(y, 8, 7);
+    v[a] = mixed.a;
+    v[b] = mixed.b;
+    v[c] = mixed.c;
+    v[d] = mixed.d;
 }
 
-fn columns(v: [u32; 16], m: [u32; 16], o: [usize; 16]) -> [u32; 16]
+// The columns, then the diagonals. In which order the four of a kind are mixed is free: in this one the compiler
+// spills little. It is found by trying, anew where the code around it changes (docs/changes/M-102.md).
+#[inline(always)]
+fn round(v: &mut [u32; 16], m: [u32; 16], o: [usize; 16])
     requires { InBlock o }
-    ensures { result ≡ columns_of v (picked_of m o) }
+    ensures { v.new ≡ round_of v.old (picked_of m o) }
 {
-    // In which order the four are mixed is free: in this one the compiler spills little (docs/changes/M-102.md).
-    let r = mix(v[2], v[6], v[10], v[14], m[o[4]], m[o[5]]);
-    let p = mix(v[0], v[4], v[8], v[12], m[o[0]], m[o[1]]);
-    let s = mix(v[3], v[7], v[11], v[15], m[o[6]], m[o[7]]);
-    let q = mix(v[1], v[5], v[9], v[13], m[o[2]], m[o[3]]);
-    [
-        p.a, q.a, r.a, s.a, p.b, q.b, r.b, s.b, p.c, q.c, r.c, s.c, p.d, q.d, r.d, s.d,
-    ]
+    mix(v, 3, 7, 11, 15, m[o[6]], m[o[7]]);
+    mix(v, 1, 5, 9, 13, m[o[2]], m[o[3]]);
+    mix(v, 0, 4, 8, 12, m[o[0]], m[o[1]]);
+    mix(v, 2, 6, 10, 14, m[o[4]], m[o[5]]);
+    mix(v, 2, 7, 8, 13, m[o[12]], m[o[13]]);
+    mix(v, 3, 4, 9, 14, m[o[14]], m[o[15]]);
+    mix(v, 1, 6, 11, 12, m[o[10]], m[o[11]]);
+    mix(v, 0, 5, 10, 15, m[o[8]], m[o[9]]);
 }
 
-fn diagonals(v: [u32; 16], m: [u32; 16], o: [usize; 16]) -> [u32; 16]
-    requires { InBlock o }
-    ensures { result ≡ diagonals_of v (picked_of m o) }
-{
-    let q = mix(v[1], v[6], v[11], v[12], m[o[10]], m[o[11]]);
-    let p = mix(v[0], v[5], v[10], v[15], m[o[8]], m[o[9]]);
-    let r = mix(v[2], v[7], v[8], v[13], m[o[12]], m[o[13]]);
-    let s = mix(v[3], v[4], v[9], v[14], m[o[14]], m[o[15]]);
-    [
-        p.a, q.a, r.a, s.a, s.b, p.b, q.b, r.b, r.c, s.c, p.c, q.c, q.d, r.d, s.d, p.d,
-    ]
-}
+// Each round picks its words from the block by an order of its own, so that no word ever moves.
+const ORDERS: [[usize; 16]; 7] = [
+    [0, 1, 2, 3, 4, 5, 6, 7, 8, 9, 10, 11, 12, 13, 14, 15],
+    [2, 6, 3, 10, 7, 0, 4, 13, 1, 11, 12, 5, 9, 14, 15, 8],
+    [3, 4, 10, 12, 13, 2, 7, 14, 6, 5, 9, 0, 11, 15, 8, 1],
+    [10, 7, 12, 9, 14, 3, 13, 15, 4, 0, 11, 2, 5, 8, 1, 6],
+    [12, 13, 9, 11, 15, 10, 14, 8, 7, 2, 5, 3, 0, 1, 6, 4],
+    [9, 14, 11, 5, 8, 12, 15, 1, 13, 3, 0, 10, 2, 6, 4, 7],
+    [11, 15, 5, 0, 1, 9, 8, 6, 14, 10, 2, 12, 3, 4, 7, 13],
+];
 
-// Each round picks its words from the block by an order of its own, so that no word ever moves. Written out, not a
-// loop: only then is each place a constant once compiled.
-fn seven_rounds(v: [u32; 16], m: [u32; 16]) -> [u32; 16]
-    ensures { result ≡ rounds_of 7 v m }
+// Written out: a loop over the orders takes twice the instructions (2,257 for 1,065), as no place in it is a constant.
+fn seven_rounds(v: &mut [u32; 16], m: [u32; 16])
+    ensures { v.new ≡ rounds_of 7 v.old m }
 {
-    let o1 = [0, 1, 2, 3, 4, 5, 6, 7, 8, 9, 10, 11, 12, 13, 14, 15];
-    let c1 = columns(v, m, o1);
-    let v1 = diagonals(c1, m, o1);
-    let o2 = [2, 6, 3, 10, 7, 0, 4, 13, 1, 11, 12, 5, 9, 14, 15, 8];
-    let c2 = columns(v1, m, o2);
-    let v2 = diagonals(c2, m, o2);
-    let o3 = [3, 4, 10, 12, 13, 2, 7, 14, 6, 5, 9, 0, 11, 15, 8, 1];
-    let c3 = columns(v2, m, o3);
-    let v3 = diagonals(c3, m, o3);
-    let o4 = [10, 7, 12, 9, 14, 3, 13, 15, 4, 0, 11, 2, 5, 8, 1, 6];
-    let c4 = columns(v3, m, o4);
-    let v4 = diagonals(c4, m, o4);
-    let o5 = [12, 13, 9, 11, 15, 10, 14, 8, 7, 2, 5, 3, 0, 1, 6, 4];
-    let c5 = columns(v4, m, o5);
-    let v5 = diagonals(c5, m, o5);
-    let o6 = [9, 14, 11, 5, 8, 12, 15, 1, 13, 3, 0, 10, 2, 6, 4, 7];
-    let c6 = columns(v5, m, o6);
-    let v6 = diagonals(c6, m, o6);
-    let o7 = [11, 15, 5, 0, 1, 9, 8, 6, 14, 10, 2, 12, 3, 4, 7, 13];
-    let c7 = columns(v6, m, o7);
-    diagonals(c7, m, o7)
+    round(v, m, ORDERS[0]);
+    round(v, m, ORDERS[1]);
+    round(v, m, ORDERS[2]);
+    round(v, m, ORDERS[3]);
+    round(v, m, ORDERS[4]);
+    round(v, m, ORDERS[5]);
+    round(v, m, ORDERS[6]);
 }
 
 // The compression of the block of words m into the chaining value h.
 pub fn compress(h: [u32; 8], m: [u32; 16], counter: u64, len: u32, flags: u32) -> [u32; 8]
     ensures { result ≡ compress_of h m counter len flags }
 {
-    let low = (counter % 4294967296) as u32;
-    let high = (counter / 4294967296) as u32;
-    let start = [
+    let low = (counter & 0xffff_ffff) as u32;
+    let high = (counter >> 32) as u32;
+    let mut v = [
         h[0], h[1], h[2], h[3], h[4], h[5], h[6], h[7], 0x6a09e667, 0xbb67ae85, 0x3c6ef372,
         0xa54ff53a, low, high, len, flags,
     ];
-    let v = seven_rounds(start, m);
+    seven_rounds(&mut v, m);
     [
         v[0] ^ v[8],
         v[1] ^ v[9],

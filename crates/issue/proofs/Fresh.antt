@@ -1,6 +1,9 @@
 -- Issue: what is read and found keeps the limits that writing needs, and what each check decides.
+use Rattle.std.specs.Prelude.{Ok, Err}
+use Rattle.cbor_heads.specs.Defects.{kind_number}
+use Rattle.cbor_heads.specs.declared.defect.Defect.{Defect}
 use mathlib.Core.Path.{◌≡◌, refl, sym, ap, subst, ◌∙◌}
-use mathlib.Core.Bool.{Bool, true, false}
+use mathlib.Core.Bool.{Bool, true, false, ◌&&◌}
 use mathlib.Core.List.{List, [], ◌∷◌, ◌++◌, append-nil}
 use Prim.Native.Nat.{ℕ, ◌≤◌}
 use native.Mathlib.Omega.{arith}
@@ -18,7 +21,6 @@ use Rattle.hash_chain.proofs.ChainLaws.{link_length}
 use Rattle.token_scope.specs.Scopes.{Scope, encode_scope, GoodScope}
 use Rattle.token_scope.specs.Reading.{scope_of}
 use Rattle.token_scope.specs.declared.ScopeAt.{ScopeAt}
-use Rattle.token_scope.specs.declared.ScopeParts.TheVariants.{Of, Bad}
 use Rattle.token_scope.proofs.ScopeRead.{scope_read}
 use Rattle.token_scope.proofs.Lengths.{scope_short}
 use Rattle.token.specs.Writing.{fresh_bytes}
@@ -40,7 +42,7 @@ ids_same : (t k tid kid : List ℕ) → same_ids t k tid kid ≡ true → (t ≡
 unfolding same_ids
 ids_same t k tid kid e = by (same_of t tid) refl e
   where
-    by : (b : Bool) → same_of t tid ≡ b → pick b (same_of k kid) false ≡ true → (t ≡ tid) × (k ≡ kid)
+    by : (b : Bool) → same_of t tid ≡ b → (b && same_of k kid) ≡ true → (t ≡ tid) × (k ≡ kid)
     by true p q = (same_equal t tid p, same_equal k kid q)
     by false p q = let z : ◌≡◌ {A = ℕ} 0 1 = cc in let z : ⊥ = omega arith in elim z [ ]
 
@@ -71,7 +73,7 @@ pub record IsWhole (scope : List ℕ) : Type 0 where
   pub good : GoodScope tree
   pub whole : scope ≡ encode_scope tree
 
-pub scope_whole : (scope : List ℕ) → IsBytes scope → {parts : ScopeAt} {next : ℕ} → scope_of scope 0 ≡ Of parts next
+pub scope_whole : (scope : List ℕ) → IsBytes scope → {parts : ScopeAt} {next : ℕ} → scope_of scope 0 ≡ Ok (parts, next)
     → next ≡ length scope → IsWhole scope
 scope_whole scope b {parts} {next} e n =
     let x = scope_read scope b 0 e in
@@ -79,7 +81,7 @@ scope_whole scope b {parts} {next} e n =
     record { tree = x.tree; good = x.good; whole = x.there ∙ ap (λ (t : List ℕ). encode_scope x.tree ++ t) z ∙ append-nil (encode_scope x.tree) }
 
 pub issuable : (table tid kid scope key : List ℕ) → IsBytes table → IsBytes scope → table_ok table ≡ true
-    → {parts : ScopeAt} {next : ℕ} → scope_of scope 0 ≡ Of parts next → next ≡ length scope
+    → {parts : ScopeAt} {next : ℕ} → scope_of scope 0 ≡ Ok (parts, next) → next ≡ length scope
     → key ≡ find_from 64 table tid kid 0 → Issuable key tid kid scope
 issuable table tid kid scope key bt bs et es n ek =
     let w = scope_whole scope bs es n in
@@ -113,11 +115,11 @@ module _ (table tid kid scope : List ℕ) where
   issue_bad_table e = rw e
 
   module _ (e : table_ok table ≡ true) where
-    pub issue_bad_scope : {kind at : ℕ} → scope_of scope 0 ≡ Bad kind at → refused kind ≡ issue_of table tid kid scope
+    pub issue_bad_scope : {d : Defect} → scope_of scope 0 ≡ Err d → refused (kind_number d.kind) ≡ issue_of table tid kid scope
     unfolding issue_of issue_then
     issue_bad_scope f = rw (e, f)
 
-    module _ {parts : ScopeAt} {next : ℕ} (f : scope_of scope 0 ≡ Of parts next) where
+    module _ {parts : ScopeAt} {next : ℕ} (f : scope_of scope 0 ≡ Ok (parts, next)) where
       pub issue_left_over : (next ≡ length scope → ⊥) → refused 4 ≡ issue_of table tid kid scope
       unfolding issue_of issue_then
       issue_left_over n = rw (e, f, ne_eqb next (length scope) n)

@@ -4,53 +4,26 @@
 #![tactic(auto)]
 
 ghost use Rattle.std.specs.Prelude.{length};
-ghost use Rattle.judge.specs.Reading.{Brought, Came};
+ghost use Rattle.judge.specs.Reading.{Came};
 ghost use Rattle.judge.specs.Lined.{Lined};
 
 use basis::limits;
-use std::io::Read;
+use std::io::{self, Read};
 
-// What one read came to.
-#[derive(Clone, Copy)]
-enum Turn {
-    More(usize),
-    End,
-    Failed,
-}
-
-// What all reads came to: so many bytes before the end, or before the room was full; or a failed read.
-#[derive(Clone, Copy)]
-enum Input {
-    Whole(usize),
-    Failed,
-}
-
-// One read, to the front of a room that is not empty.
-fn read_some(input: &mut impl Read, room: &mut [u8]) -> Turn
-    ensures { Brought result (length room.new) }
-{
-    let Ok(k) = input.read(room) else {
-        return Turn::Failed;
-    };
-    if k == 0 {
-        return Turn::End;
-    }
-    Turn::More(k)
-}
-
-// Reads until the input ends, a read fails or the room is full.
-fn read_input(input: &mut impl Read, room: &mut [u8]) -> Input
+// Reads until the input ends or the room is full, and says how many bytes came. By `read`, turn by turn: `read_exact`
+// does not say how many came before the end, and `read_to_end` asks for a heap.
+fn read_input(input: &mut impl Read, room: &mut [u8]) -> io::Result<usize>
     ensures { Came result (length room.new) }
 {
     let mut n: usize = 0;
     while n < room.len() {
-        match read_some(input, &mut room[n..]) {
-            Turn::More(k) => n += k,
-            Turn::End => return Input::Whole(n),
-            Turn::Failed => return Input::Failed,
+        let k = input.read(&mut room[n..])?;
+        if k == 0 {
+            break;
         }
+        n += k;
     }
-    Input::Whole(n)
+    Ok(n)
 }
 
 // Writes the text to standard output, or says that it could not.
@@ -60,11 +33,11 @@ fn write_lines(rt: &(impl Print + Eprint), text: &[u8]) {
     }
 }
 
-// The bundle's lines at the front of the room, and how many bytes they have.
+// The bundle's lines at the front of the room, which is enough for any, and how many bytes they have.
 fn lines_of(input: &[u8], room: &mut [u8; bundle::ENOUGH]) -> usize
     ensures { Lined input.now result room.new }
 {
-    bundle::judge_bundle(input, room)
+    bundle::judge_bundle(input, room).unwrap()
 }
 
 fn judge_input(rt: &(impl Print + Eprint), input: &[u8]) {
@@ -75,11 +48,9 @@ fn judge_input(rt: &(impl Print + Eprint), input: &[u8]) {
 
 fn main(rt: HostRuntime) {
     let mut input = [0u8; limits::BUNDLE_MOST + 1];
-    match read_input(&mut rt.stdin(), &mut input) {
-        Input::Whole(n) => judge_input(&rt, &input[..n]),
-        Input::Failed => {
-            let _ = rt.eprintln("judge: standard input could not be read");
-            write_lines(&rt, b"bundle.bad\n");
-        }
-    }
+    let Ok(n) = read_input(&mut rt.stdin(), &mut input) else {
+        let _ = rt.eprintln("judge: standard input could not be read");
+        return write_lines(&rt, b"bundle.bad\n");
+    };
+    judge_input(&rt, &input[..n]);
 }

@@ -2,19 +2,19 @@
 -- the recursion hands on.
 use mathlib.Core.Path.{◌≡◌, refl, sym, ap, ap₂, ◌∙◌}
 use mathlib.Core.Bool.{Bool, true, false}
-use mathlib.Core.List.{List, ◌++◌}
-use Prim.Native.Nat.{ℕ, zero, suc, ◌+◌, ◌-◌, ◌*◌, ◌^◌, ◌≤◌, ◌<◌, min}
-use native.Mathlib.Nat.{pow-suc, mul_comm}
+use mathlib.Core.List.{List}
+use Prim.Native.Nat.{ℕ, zero, suc, ◌+◌, ◌-◌, ◌*◌, ◌^◌, ◌%◌, ◌≤◌, ◌<◌}
+use native.Mathlib.Nat.{pow-suc, sub-zero}
 use native.Mathlib.Omega.{arith}
 use borrow.Author.Tests.{le-leb, lt-leb, leb-true, leb-false}
 use lib.Dec.{leb}
 use lib.Pow.{pow_mono}
-use lib.ListN.{length, take, drop, length-append, length-take, length-drop}
+use lib.ListN.{length, take, drop, length-drop}
 use lib.Seq.{take_all}
 use Rattle.hash_chunks.specs.Chunks.{chunk_of, parent_of}
 use Rattle.keyed_hash.specs.Tree.{full_of, tree_of}
 use Rattle.keyed_hash.specs.Fits.{Fit}
-use Rattle.hash_chunks.proofs.Blocks.{cut}
+use Rattle.std.proofs.lemmas.Nat.{one_shl}
 
 module _ (key s : List ℕ) (counter root : ℕ) where
   -- a taller tree than is needed is the same tree
@@ -65,68 +65,40 @@ split_at key s counter root (suc h) z g =
     let e : suc h - 1 ≡ h = omega arith in
     rw e (sym (split key s counter root h (rw e at g)))
 
--- what the recursion hands on, where there is more than one chunk
-module _ (h n counter root : ℕ) (f : Fit h n counter root) (g : 1024 < n) where
+-- what the recursion hands on, where there is more than one chunk: c is half as many chunks as the tree may have
+module _ (h n counter root c : ℕ) (f : Fit h n counter root) (g : 1024 < n) (e : c ≡ 1 * 2 ^ (h - 1) % 2 ^ 64) where
   pub not_flat : h ≡ 0 → ⊥
-  not_flat e = let b : n ≤ 1024 = rw e at f.bytes in omega arith
+  not_flat z = let b : n ≤ 1024 = rw z at f.bytes in omega arith
 
-  pub low_half : h - 1 < 3
-  low_half = omega (arith, f.low, not_flat)
+  half : c ≡ 2 ^ (h - 1)
+  half = let l : h - 1 < 64 = omega (arith, f.low) in e ∙ one_shl (h - 1) 64 l
 
-  pub fit_left : (m root' : ℕ) → m ≤ full_of (h - 1) → root' ≤ 8 → Fit (h - 1) m counter root'
+  pub fit_left : (m root' : ℕ) → m ≤ c * 1024 → root' ≤ 8 → Fit (h - 1) m counter root'
   fit_left m root' l r =
       let d = double h not_flat in
-      record { low = omega (arith, f.low); bytes = l; number = omega (arith, f.number); flag = r }
+      let p = half in
+      record { low = omega (arith, f.low); bytes = omega arith; number = omega (arith, f.number); flag = r }
 
-  pub fit_right : (m c : ℕ) → c ≡ 2 ^ (h - 1) → m ≤ full_of (h - 1) → Fit (h - 1) m (counter + c) 0
-  fit_right m c e l =
+  pub fit_right : (m : ℕ) → m ≤ n - c * 1024 → Fit (h - 1) m (counter + c) 0
+  fit_right m l =
       let d = double h not_flat in
-      record { low = omega (arith, f.low); bytes = l; number = omega (arith, f.number); flag = omega arith }
+      let p = half in
+      record { low = omega (arith, f.low); bytes = omega (arith, f.bytes); number = omega (arith, f.number); flag = omega arith }
 
-  pub few : counter + 2 ^ (h - 1) ≤ 8
-  few = (fit_left 0 0 (omega arith) (omega arith)).number
+module _ (key s : List ℕ) (counter root h c : ℕ) (f : Fit h (length s) counter root) (g : 1024 < length s) (e : c ≡ 1 * 2 ^ (h - 1) % 2 ^ 64) where
+  pub whole : {r : List ℕ} → length s ≤ c * 1024 → r ≡ tree_of key (h - 1) s counter root → r ≡ tree_of key h s counter root
+  whole l q =
+      let p = half h (length s) counter root c f g e in
+      q ∙ any_height key s counter root (h - 1) h (omega arith) (omega (arith, f.bytes))
 
-  pub rest_fits : n - full_of (h - 1) ≤ full_of (h - 1)
-  rest_fits = let d = double h not_flat in omega (arith, f.bytes)
-
--- the left half is no longer than it may be
-pub left_fits : (head body : List ℕ) (k c a : ℕ) → c ≡ 2 ^ k → a ≡ min (c * 1024) (length head)
-    → length (take a head) + length (take (c * 1024 - a) body) ≤ full_of k
-left_fits head body k c a e m = simp length-take (omega arith)
-
--- the two parts of a message, cut after l bytes, a of them in the head
-module _ (head body : List ℕ) (l a : ℕ) (e : a ≡ min l (length head)) where
-  pub left_part : take a head ++ take (l - a) body ≡ take l (head ++ body)
-  left_part = rw e (sym (cut l head body).0)
-
-  pub right_part : take (length head - a) (drop a head) ++ take (length body - (l - a)) (drop (l - a) body) ≡ drop l (head ++ body)
-  right_part =
-      let x = take_all (length head - a) (drop a head) (simp length-drop (omega arith)) in
-      let y = take_all (length body - (l - a)) (drop (l - a) body) (simp length-drop (omega arith)) in
-      rw (x, y, e) (sym (cut l head body).1)
-
-pub right_fits : (head body : List ℕ) (h counter root c a : ℕ) → Fit h (length head + length body) counter root → 1024 < length head + length body
-    → c ≡ 2 ^ (h - 1) → a ≡ min (c * 1024) (length head)
-    → length (take (length head - a) (drop a head)) + length (take (length body - (c * 1024 - a)) (drop (c * 1024 - a) body)) ≤ full_of (h - 1)
-right_fits head body h counter root c a f g e m =
-    let x = take (length head - a) (drop a head) in
-    let y = take (length body - (c * 1024 - a)) (drop (c * 1024 - a) body) in
-    let r = rest_fits h (length head + length body) counter root f g in
-    let q : length x + length y ≡ (length head + length body) - c * 1024 =
-    sym (length-append x y) ∙ ap length (right_part head body (c * 1024) a m) ∙ length-drop (c * 1024) (head ++ body) ∙ rw length-append in
-    rw q (rw e (rw (mul_comm (2 ^ (h - 1)) 1024) r))
-
-module _ (key head body : List ℕ) (counter root h n c : ℕ) (f : Fit h n counter root) (e : n ≡ length (head ++ body)) (p : c ≡ 2 ^ (h - 1)) where
-  pub whole : {r : List ℕ} → n ≤ c * 1024 → r ≡ tree_of key (h - 1) (head ++ body) counter root → r ≡ tree_of key h (head ++ body) counter root
-  whole g q = q ∙ any_height key (head ++ body) counter root (h - 1) h (omega arith) (omega (arith, f.bytes))
-
-  pub halves : (a : ℕ) {left right r : List ℕ} → 1024 < n → c * 1024 < n → a ≡ min (c * 1024) (length head)
-      → left ≡ tree_of key (h - 1) (take a head ++ take (c * 1024 - a) body) counter 0
-      → right ≡ tree_of key (h - 1) (take (length head - a) (drop a head) ++ take (length body - (c * 1024 - a)) (drop (c * 1024 - a) body)) (counter + c) 0
-      → r ≡ parent_of key left right root → r ≡ tree_of key h (head ++ body) counter root
-  halves a {left} {right} g k q x y z =
+  pub halves : (n : ℕ) {front back left right r : List ℕ} → n ≡ length s → c * 1024 < n → front ≡ take (c * 1024 - 0) s
+      → back ≡ take (n - c * 1024) (drop (c * 1024) s) → left ≡ tree_of key (h - 1) front counter 0
+      → right ≡ tree_of key (h - 1) back (counter + c) 0 → r ≡ parent_of key left right root → r ≡ tree_of key h s counter root
+  halves n {front} {back} {left} {right} en l a b x y z =
+      let p = half h (length s) counter root c f g e in
       let m : c * 1024 ≡ full_of (h - 1) = omega arith in
-      let u = x ∙ ap (λ (t : List ℕ). tree_of key (h - 1) t counter 0) (left_part head body (c * 1024) a q ∙ ap (λ (i : ℕ). take i (head ++ body)) m) in
-      let v = y ∙ ap (λ (t : List ℕ). tree_of key (h - 1) t (counter + c) 0) (right_part head body (c * 1024) a q ∙ ap (λ (i : ℕ). drop i (head ++ body)) m) in
-      z ∙ ap₂ (λ (s t : List ℕ). parent_of key s t root) u (rw p at v)
-      ∙ split_at key (head ++ body) counter root h (not_flat h n counter root f g) (omega arith)
+      let first : front ≡ take (full_of (h - 1)) s = rw (sub-zero, m) at a in
+      let others : back ≡ drop (full_of (h - 1)) s =
+      b ∙ take_all (n - c * 1024) (drop (c * 1024) s) (simp length-drop (omega arith)) ∙ ap (λ (i : ℕ). drop i s) m in
+      z ∙ ap₂ (λ (u v : List ℕ). parent_of key u v root) (rw first at x) (rw (others, p) at y)
+      ∙ split_at key s counter root h (not_flat h (length s) counter root c f g e) (omega arith)

@@ -1,19 +1,19 @@
 -- From the tests on key and length to the whole answer; eight chunks are as tall a tree as any message that is taken needs. No crate
 -- above can name this module: its law `taken` says how the hash is made.
 use mathlib.Core.Path.{◌≡◌, sym, ap, ◌∙◌}
-use mathlib.Core.List.{List, ◌++◌}
-use Prim.Native.Nat.{ℕ, zero, suc, ◌+◌, ◌-◌, ◌*◌, ◌^◌, ◌≤◌, ◌<◌}
+use mathlib.Core.List.{List}
+use Prim.Native.Nat.{ℕ, zero, suc, ◌*◌, ◌^◌, ◌≤◌, ◌<◌}
 use native.Mathlib.Nat.{pow-suc}
 use native.Mathlib.Omega.{arith}
 use borrow.Author.Tests.{eq-eqb, ne_eqb, lt-ltb, le-ltb}
 use lib.Pow.{pow_pos}
-use lib.ListN.{length, length-append}
+use lib.ListN.{length}
 use Rattle.answers.specs.Answers.{number_of}
 use Rattle.answers.specs.declared.Answer.TheVariants.{Allow}
 use Rattle.keyed_hash.specs.declared.Hashed.{Hashed}
 use Rattle.keyed_hash.specs.declared.Inside.TheVariants.{Here}
-use Rattle.hash_chunks.specs.Chunks.{root_flag, words_of}
-use Rattle.keyed_hash.specs.Tree.{bytes_of_words, tree_of}
+use Rattle.hash_chunks.specs.Chunks.{root_flag, words_of, bytes_of_words}
+use Rattle.keyed_hash.specs.Tree.{tree_of}
 use Rattle.keyed_hash.specs.KeyedHash.{hash_is, refused_hash, hashed_of}
 use Rattle.keyed_hash.specs.Fits.{Fit}
 use Rattle.keyed_hash.proofs.Halves.{any_height}
@@ -22,16 +22,9 @@ pub bad_key : (key message : List ℕ) → (length key ≡ 32 → ⊥) → refus
 unfolding hashed_of
 bad_key key message h = rw (ne_eqb (length key) 32 h)
 
-module _ (key head body : List ℕ) (h : length key ≡ 32) where
-  too_long : 8192 < length head + length body → refused_hash ≡ hashed_of key (head ++ body)
-  unfolding hashed_of
-  too_long g = rw (eq-eqb (length key) 32 h, length-append, lt-ltb _ _ g)
-
-  pub long_head : 8192 < length head → refused_hash ≡ hashed_of key (head ++ body)
-  long_head g = too_long (omega arith)
-
-  pub long_body : length head ≤ 8192 → 8192 - length head < length body → refused_hash ≡ hashed_of key (head ++ body)
-  long_body f g = too_long (omega arith)
+pub too_long : (key message : List ℕ) → length key ≡ 32 → 8192 < length message → refused_hash ≡ hashed_of key message
+unfolding hashed_of
+too_long key message h g = rw (eq-eqb (length key) 32 h, lt-ltb _ _ g)
 
 enough : (n : ℕ) → n ≤ 2 ^ n
 enough zero = omega arith

@@ -11,8 +11,8 @@ use Rattle.answers.specs.declared.Answer.TheVariants.{Allow, HashBad}
 use Rattle.keyed_hash.specs.declared.Hashed.{Hashed}
 use Rattle.keyed_hash.specs.declared.Inside.{Inside}
 use Rattle.keyed_hash.specs.declared.Inside.TheVariants.{Here}
-use Rattle.hash_chunks.specs.Chunks.{root_flag, words_of}
-use Rattle.keyed_hash.specs.Tree.{bytes_of_words, tree_of}
+use Rattle.hash_chunks.specs.Chunks.{root_flag, words_of, bytes_of_words}
+use Rattle.keyed_hash.specs.Tree.{tree_of}
 
 -- 01, "Chain": "MAC is BLAKE3 keyed mode, 32 bytes out." Of a message of any length: n bytes are never more than 2^n chunks
 pub keyed_hash : List ℕ → List ℕ → List ℕ

@@ -1,15 +1,8 @@
 -- Meaning. BLAKE3's keyed mode on lists of bytes, as the BLAKE3 paper has it in sections 2.1 ("Tree structure"), 2.3 ("Modes") and 2.6 (the
 -- root); document 01, "Chain". Chunks and parents are in Chunks of `hash_chunks`.
-use Rattle.std.specs.Prelude.{List, ℕ, zero, suc, ◌+◌, ◌*◌, ◌/◌, ◌%◌, ◌^◌, length, take, drop, get_or, leb}
-use Rattle.basis.specs.Basis.{pick, tab}
+use Rattle.std.specs.Prelude.{List, ℕ, zero, suc, ◌+◌, ◌*◌, ◌^◌, length, take, drop, leb}
+use Rattle.basis.specs.Basis.{pick}
 use Rattle.hash_chunks.specs.Chunks.{chunk_of, parent_of}
-
--- the 32 bytes of eight words, each with its low byte first
-abbrev pub byte_of : ℕ → ℕ → ℕ
-byte_of x k = x / 256 ^ k % 256
-
-abbrev pub bytes_of_words : List ℕ → List ℕ
-bytes_of_words w = tab 32 (λ i. byte_of (get_or w (i / 4) 0) (i % 4))
 
 -- the bytes of 2^h whole chunks
 abbrev pub full_of : ℕ → ℕ

@@ -1,4 +1,7 @@
 -- Narrow: what each check before the caveat decides, in the terms that the code has.
+use Rattle.std.specs.Prelude.{Result, Ok, Err}
+use Rattle.cbor_heads.specs.Defects.{kind_number}
+use Rattle.cbor_heads.specs.declared.defect.Defect.{Defect}
 use mathlib.Core.Path.{◌≡◌}
 use mathlib.Core.Bool.{true, false}
 use mathlib.Core.List.{List}
@@ -7,12 +10,11 @@ use borrow.Author.Tests.{eq-eqb, ne_eqb, lt-ltb, le-ltb}
 use lib.ListN.{length}
 use Rattle.basis.specs.Basis.{between}
 use Rattle.basis.specs.Same.{same_of}
-use Rattle.text_reading.specs.Reading.{bytes_of, Filled}
-use Rattle.text_reading.specs.declared.Decoded.{Decoded}
-use Rattle.text_reading.specs.declared.Decoded.TheVariants.{Bytes, Bad as NoText, Short}
+use Rattle.text_reading.specs.Reading.{undecoded_answer, bytes_of, Filled}
+use Rattle.text_reading.specs.declared.Undecoded.{Undecoded}
+use Rattle.answers.specs.Answers.{number_of}
 use Rattle.token_caveat.specs.Reading.{caveat_of}
 use Rattle.token.specs.Reading.{token_of}
-use Rattle.token.specs.declared.TokenParts.TheVariants.{Of, Bad}
 use Rattle.records_table.specs.Reading.{table_ok, find_from}
 use Rattle.token.specs.declared.TokenAt.{TokenAt}
 use Rattle.verify_walk.specs.Walking.{link_first, links_of}
@@ -34,11 +36,11 @@ module _ (key s : List ℕ) (p : TokenAt) (caveat : List ℕ) {first link tag : 
   narrow_right_tag e = rw (← is_last, ← eg, e)
 
 module _ (table s caveat : List ℕ) where
-  pub narrow_unreadable : {kind at : ℕ} → token_of s ≡ Bad kind at → refused kind ≡ bytes_narrowed table s caveat
+  pub narrow_unreadable : {d : Defect} → token_of s ≡ Err d → refused (kind_number d.kind) ≡ bytes_narrowed table s caveat
   unfolding bytes_narrowed token_narrowed
   narrow_unreadable e = rw e
 
-  module _ {p : TokenAt} (e : token_of s ≡ Of p) {t k key : List ℕ} (et : t ≡ between s p.tid) (ek : k ≡ between s p.kid) (ef : key ≡ find_from 64 table t k 0) where
+  module _ {p : TokenAt} (e : token_of s ≡ Ok p) {t k key : List ℕ} (et : t ≡ between s p.tid) (ek : k ≡ between s p.kid) (ef : key ≡ find_from 64 table t k 0) where
     found : key_narrowed key s p caveat ≡ bytes_narrowed table s caveat
     unfolding bytes_narrowed token_narrowed
     found = rw (e, ef, et, ek)
@@ -56,20 +58,16 @@ module _ (table text caveat : List ℕ) where
   unfolding text_narrowed
   narrow_too_long h = rw (lt-ltb 5462 (length text) h)
 
-  module _ (h : length text ≤ 5462) (entry : List ℕ) (l : length entry ≡ 4096) (r : Decoded) (exit : List ℕ) (f : Filled text entry r exit) where
+  module _ (h : length text ≤ 5462) (entry : List ℕ) (l : length entry ≡ 4096) (r : Result ℕ Undecoded) (exit : List ℕ) (f : Filled text entry r exit) where
     decoded : decoded_narrowed table text caveat r ≡ text_narrowed table text caveat
     unfolding text_narrowed
     decoded = rw (le-ltb 5462 (length text) h, ← l, f.answer)
 
-    pub narrow_not_text : {at : ℕ} → r ≡ NoText at → refused 3 ≡ text_narrowed table text caveat
+    pub narrow_no_bytes : {e : Undecoded} → r ≡ Err e → refused (number_of (undecoded_answer e)) ≡ text_narrowed table text caveat
     unfolding decoded_narrowed
-    narrow_not_text e = rw e at decoded
+    narrow_no_bytes e = rw e at decoded
 
-    pub narrow_no_room : r ≡ Short → refused 5 ≡ text_narrowed table text caveat
-    unfolding decoded_narrowed
-    narrow_no_room e = rw e at decoded
-
-    pub narrow_whole : {n : ℕ} → r ≡ Bytes n → {s : List ℕ} → s ≡ bytes_of text → bytes_narrowed table s caveat ≡ text_narrowed table text caveat
+    pub narrow_whole : {n : ℕ} → r ≡ Ok n → {s : List ℕ} → s ≡ bytes_of text → bytes_narrowed table s caveat ≡ text_narrowed table text caveat
     unfolding decoded_narrowed
     narrow_whole e s = rw s (rw e at decoded)
 

@@ -1,17 +1,16 @@
 -- Reading. Need not be believed: the demands' theorems fix it. Narrow, check by check. Document 01, "Numbers and names": "Narrow: 1, text
 -- length, 3, reading, 7, 8, the caveat's reading as 31, 32, 33 for 4, 5, 6, then 34, 35, 36." What stands behind 8 is the child's: see
 -- Child of `narrow_child`.
-use Rattle.std.specs.Prelude.{List, ℕ, eqb, ltb, length}
+use Rattle.std.specs.Prelude.{List, ℕ, eqb, ltb, length, Ok, Err, Result}
 use Rattle.basis.specs.Basis.{pick, between}
 use Rattle.basis.specs.Same.{same_of}
+use Rattle.cbor_heads.specs.Defects.{Reading, kind_number}
 use Rattle.basis.specs.Limits.{key_length, text_most, token_most}
-use Rattle.text_reading.specs.Reading.{judged_of, bytes_of, decoded_of}
-use Rattle.text_reading.specs.declared.Decoded.{Decoded}
-use Rattle.text_reading.specs.declared.Decoded.TheVariants.{Bytes, Bad as NoText, Short}
+use Rattle.text_reading.specs.Reading.{judged_of, bytes_of, decoded_of, undecoded_answer}
+use Rattle.text_reading.specs.declared.Undecoded.{Undecoded}
+use Rattle.answers.specs.Answers.{number_of}
 use Rattle.token_caveat.specs.Reading.{caveat_of}
 use Rattle.token.specs.Reading.{token_of}
-use Rattle.token.specs.declared.TokenParts.{TokenParts}
-use Rattle.token.specs.declared.TokenParts.TheVariants.{Of as TokenIs, Bad as NoToken}
 use Rattle.records_table.specs.Reading.{table_ok}
 use Rattle.verify_walk.specs.Walking.{link_first, links_of}
 use Rattle.verify.specs.Verifying.{key_of}
@@ -33,18 +32,17 @@ unfoldable pub key_narrowed : List ℕ → List ℕ → TokenAt → List ℕ →
 key_narrowed key s p caveat = pick (eqb (length key) key_length) (tag_narrowed key s p caveat) (refused 7)
 
 -- 4 to 6
-unfoldable pub token_narrowed : List ℕ → List ℕ → List ℕ → TokenParts → Decision
-token_narrowed table s caveat (NoToken kind at) = refused kind
-token_narrowed table s caveat (TokenIs p) = key_narrowed (key_of table s p) s p caveat
+unfoldable pub token_narrowed : List ℕ → List ℕ → List ℕ → Reading TokenAt → Decision
+token_narrowed table s caveat (Err d) = refused (kind_number d.kind)
+token_narrowed table s caveat (Ok p) = key_narrowed (key_of table s p) s p caveat
 
 unfoldable pub bytes_narrowed : List ℕ → List ℕ → List ℕ → Decision
 bytes_narrowed table s caveat = token_narrowed table s caveat (token_of s)
 
 -- 3; that the bytes of 5,462 characters do not fit cannot be
-unfoldable pub decoded_narrowed : List ℕ → List ℕ → List ℕ → Decoded → Decision
-decoded_narrowed table text caveat (NoText at) = refused 3
-decoded_narrowed table text caveat Short = refused 5
-decoded_narrowed table text caveat (Bytes n) = bytes_narrowed table (bytes_of text) caveat
+unfoldable pub decoded_narrowed : List ℕ → List ℕ → List ℕ → Result ℕ Undecoded → Decision
+decoded_narrowed table text caveat (Err e) = refused (number_of (undecoded_answer e))
+decoded_narrowed table text caveat (Ok n) = bytes_narrowed table (bytes_of text) caveat
 
 -- "text length"
 unfoldable pub text_narrowed : List ℕ → List ℕ → List ℕ → Decision

@@ -1,4 +1,7 @@
 -- The child: what the checks behind the caveat decide, and that its writer wrote it.
+use Rattle.std.specs.Prelude.{Option, None, Ok, Err}
+use Rattle.cbor_heads.specs.Defects.{kind_number}
+use Rattle.cbor_heads.specs.declared.defect.Defect.{Defect}
 use mathlib.Core.Path.{◌≡◌, refl, ap, ◌∙◌}
 use mathlib.Core.Bool.{Bool, true, false}
 use mathlib.Core.List.{List, ◌++◌}
@@ -9,43 +12,21 @@ use lib.Dec.{leb}
 use lib.ListN.{length, length-append}
 use Rattle.basis.specs.Basis.{pick, between, Written}
 use Rattle.text_writing.specs.Base64url.{base64url}
-use Rattle.cbor_heads.proofs.HeadLengths.{head_one}
 use Rattle.hash_chain.specs.Chain.{next_link}
 use Rattle.hash_chain.specs.Inner.{NextOf}
 use Rattle.token_caveat.specs.Reading.{caveat_of}
 use Rattle.token_caveat_values.specs.declared.CaveatAt.{CaveatAt}
-use Rattle.token_caveat_values.specs.declared.CaveatParts.TheVariants.{Of, Bad}
-use Rattle.token_caveat.proofs.DefectKinds.{caveat_kind}
 use Rattle.token.specs.Tokens.{token_bytes}
 use Rattle.token.specs.declared.TokenAt.{TokenAt}
 use Rattle.outcome.specs.Decisions.{refused, granted}
+use Rattle.outcome.proofs.Carrying.{made_none}
 use Rattle.narrow_child.specs.Child.{sized, child_of, caveat_added}
 
--- a token is no shorter than its last caveat, and not empty
+-- a token is no shorter than its last caveat
 module _ (n : ℕ) (caveats caveat scope tag kid tid : List ℕ) where
   long_as_caveat : length caveat ≤ length (token_bytes n (caveats ++ caveat) scope tag kid tid)
   unfolding token_bytes
   long_as_caveat = simp length-append (omega arith)
-
-  not_empty : 0 < length (token_bytes n (caveats ++ caveat) scope tag kid tid)
-  unfolding token_bytes
-  not_empty = simp length-append (omega (arith, head_one 5 6 (omega arith)))
-
--- 0 is said of a text that is not empty only where the room is too short
-module _ (text entry : List ℕ) {r : ℕ} {exit : List ℕ} (w : Written text entry r exit) where
-  pub made_fits : (r ≡ 0 → ⊥) → length text ≤ length entry
-  made_fits n = by (leb (length text) (length entry)) refl w.counted
-    where
-      by : (b : Bool) → leb (length text) (length entry) ≡ b → r ≡ pick b (length text) 0 → length text ≤ length entry
-      by true p q = leb-true (length text) (length entry) p
-      by false p q = let z = n q in elim z [ ]
-
-  pub made_none : 0 < length text → r ≡ 0 → length entry < length text
-  made_none h z = by (leb (length text) (length entry)) refl w.counted
-    where
-      by : (b : Bool) → leb (length text) (length entry) ≡ b → r ≡ pick b (length text) 0 → length entry < length text
-      by true p q = let x : ⊥ = omega (arith, q, z, h) in elim x [ ]
-      by false p q = leb-false (length text) (length entry) p
 
 pub short_caveat : (key caveat : List ℕ) → length key ≡ 32 → length caveat ≤ 4096 → NextOf key caveat
 short_caveat key caveat k l = record { keyed = k; narrow = l }
@@ -76,10 +57,10 @@ module _ (key link s : List ℕ) (p : TokenAt) (caveat : List ℕ) where
       unfolding child_of
       by_size = rw (lt-leb 64 p.caveats.count h, et, ec, es, ek, ei)
 
-      pub child_too_long : {entry exit : List ℕ} {r : ℕ} → Written child entry r exit → length entry ≡ 4096 → r ≡ 0 → refused 35 ≡ child_of key link s p caveat
+      pub child_too_long : {entry exit : List ℕ} {r : Option ℕ} → Written child entry r exit → length entry ≡ 4096 → r ≡ None → refused 35 ≡ child_of key link s p caveat
       unfolding sized
       child_too_long {entry} w l z =
-          let n = made_none child entry w (not_empty (p.caveats.count + 1) caveats caveat scope tag kid tid) z in
+          let n = made_none child entry w z in
           rw (lt-ltb 4096 (length child) (omega (arith, n, l))) at by_size
 
       pub child_granted : {bytes : List ℕ} → bytes ≡ child → length child ≤ 4096 → granted (base64url bytes) ≡ child_of key link s p caveat
@@ -87,11 +68,11 @@ module _ (key link s : List ℕ) (p : TokenAt) (caveat : List ℕ) where
       child_granted {bytes} e l = ap (λ (b : List ℕ). granted (base64url b)) e ∙ (rw (le-ltb 4096 (length child) l) at by_size)
 
   -- the caveat's reading
-  pub caveat_bad : {kind at : ℕ} → caveat_of caveat ≡ Bad kind at → refused (kind + 27) ≡ caveat_added key link s p caveat (caveat_of caveat)
+  pub caveat_bad : {d : Defect} → caveat_of caveat ≡ Err d → refused (kind_number d.kind + 27) ≡ caveat_added key link s p caveat (caveat_of caveat)
   unfolding caveat_added
   caveat_bad e = rw e
 
-  module _ {part : CaveatAt} {next : ℕ} (e : caveat_of caveat ≡ Of part next) where
+  module _ {part : CaveatAt} {next : ℕ} (e : caveat_of caveat ≡ Ok (part, next)) where
     pub caveat_left_over : (next ≡ length caveat → ⊥) → refused 31 ≡ caveat_added key link s p caveat (caveat_of caveat)
     unfolding caveat_added
     caveat_left_over n = rw (e, ne_eqb next (length caveat) n)
@@ -99,6 +80,3 @@ module _ (key link s : List ℕ) (p : TokenAt) (caveat : List ℕ) where
     pub caveat_whole : next ≡ length caveat → child_of key link s p caveat ≡ caveat_added key link s p caveat (caveat_of caveat)
     unfolding caveat_added
     caveat_whole n = rw (e, eq-eqb next (length caveat) n)
-
-pub kind_small : (caveat : List ℕ) {kind at : ℕ} → caveat_of caveat ≡ Bad kind at → kind ≤ 6
-kind_small caveat e = (caveat_kind caveat e).1

@@ -1,12 +1,12 @@
 -- Reading. Need not be believed: the demands' theorems fix it. The child, behind the checks of its parent. Document 01, "Numbers and
 -- names": ".. the caveat's reading as 31, 32, 33 for 4, 5, 6, then 34, 35, 36." The last one is the room's: see Decisions of `outcome`.
-use Rattle.std.specs.Prelude.{List, ℕ, ◌+◌, eqb, leb, ltb, length}
+use Rattle.token_caveat_values.specs.declared.CaveatAt.{CaveatAt}
+use Rattle.std.specs.Prelude.{List, ℕ, ◌+◌, eqb, leb, ltb, length, Ok, Err}
 use Rattle.basis.specs.Basis.{pick, between}
+use Rattle.cbor_heads.specs.Defects.{Reading, kind_number}
 use Rattle.basis.specs.Limits.{token_most, caveats_most}
 use Rattle.text_writing.specs.Base64url.{base64url}
 use Rattle.hash_chain.specs.Chain.{next_link}
-use Rattle.token_caveat_values.specs.declared.CaveatParts.{CaveatParts}
-use Rattle.token_caveat_values.specs.declared.CaveatParts.TheVariants.{Of, Bad}
 use Rattle.token.specs.Writing.{child_bytes}
 use Rattle.token.specs.declared.TokenAt.{TokenAt}
 use Rattle.outcome.specs.Decisions.{Decision, refused, granted}
@@ -24,6 +24,6 @@ child_of key link s p caveat =
     (between s p.tid)))
 
 -- "the caveat's reading as 31, 32, 33 for 4, 5, 6"; bytes left over are 31
-unfoldable pub caveat_added : List ℕ → List ℕ → List ℕ → TokenAt → List ℕ → CaveatParts → Decision
-caveat_added key link s p caveat (Bad kind at) = refused (kind + 27)
-caveat_added key link s p caveat (Of part next) = pick (eqb next (length caveat)) (child_of key link s p caveat) (refused 31)
+unfoldable pub caveat_added : List ℕ → List ℕ → List ℕ → TokenAt → List ℕ → Reading (CaveatAt × ℕ) → Decision
+caveat_added key link s p caveat (Err d) = refused (kind_number d.kind + 27)
+caveat_added key link s p caveat (Ok (part, next)) = pick (eqb next (length caveat)) (child_of key link s p caveat) (refused 31)

@@ -1,6 +1,8 @@
 -- Meaning. What is handed out, and what the room holds then. Document 01: "Done returns the text's length; the rest of the room stays.
 -- Every refusal by these three returns 0 bytes and writes nothing."
-use Rattle.std.specs.Prelude.{◌≡◌, List, ℕ, leb, length}
+use Rattle.std.specs.Prelude.{◌≡◌, List, ℕ, leb, length, Result, Ok, Err}
+use Rattle.answers.specs.Answers.{number_of}
+use Rattle.answers.specs.declared.Answer.{Answer}
 use Rattle.basis.specs.Basis.{pick, over}
 use Rattle.outcome.specs.declared.Outcome.{Outcome}
 
@@ -25,6 +27,11 @@ content_for (granted text) entry = pick (leb (length text) (length entry)) (over
 -- the outcome of a check that fails
 abbrev pub refusal : ℕ → Outcome
 refusal n = record { answer = n; length = 0 }
+
+-- what a call comes to in the code, as it is handed out
+abbrev pub outcome_of : Result ℕ Answer → Outcome
+outcome_of (Ok n) = record { answer = 0; length = n }
+outcome_of (Err a) = refusal (number_of a)
 
 pub record Carried (h : Decision) (entry : List ℕ) (r : Outcome) (exit : List ℕ) : Type 0 where
   pub answer : r.answer ≡ answer_for h (length entry)

@@ -8,17 +8,19 @@ ghost use Rattle.cbor_strings.specs.Reading.{read_run, read_string};
 ghost use Rattle.cbor_values.specs.Reading.{value_of};
 ghost use Rattle.token_cidr.specs.Bits.{agree_of};
 ghost use Rattle.token_cidr.specs.Reading.{cidr_of};
+ghost use Rattle.cbor_heads.specs.Defects.{kind_number};
 ghost use Rattle.probe.specs.Probes.{decoded_probe, encoded_probe, head_probe, content_probe, item_probe, class_at};
-ghost use Rattle.probe.specs.Probes.{cidr_probe, bool_probe};
+ghost use Rattle.probe.specs.Probes.{told, cidr_probe, bool_probe};
 ghost use Rattle.probe.specs.Probes.{DecodeProbed, EncodeProbed};
 
+use answers::Answer;
+use basis::Span;
 use cbor_heads::Head;
-use cbor_strings::{Class, Content};
-use cbor_values::Item;
+use cbor_heads::defect::{Defect, Reading};
+use cbor_strings::Class;
 use keyed_hash::Hashed;
-use text_reading::Decoded;
-use text_writing::Encoded;
-use token_cidr::Cidr;
+use text_reading::Undecoded;
+use token_cidr::Network;
 
 // An answer as numbers: a host cannot take an enum apart by Rattle's layout.
 #[repr(C)]
@@ -37,143 +39,90 @@ pub extern "C" fn probe_keyed_hash_joined(key: &[u8], head: &[u8], body: &[u8]) 
     keyed_hash::keyed_hash_joined(key, head, body)
 }
 
-fn decoded_probe(d: Decoded) -> Probed
+// A number of the answer list, and what it carries.
+fn told(kind: u32, first: u64, second: u64, third: u64) -> Probed
+    ensures { result ≡ told kind first second third }
+{
+    Probed {
+        kind,
+        first,
+        second,
+        third,
+    }
+}
+
+// A defect's number and place.
+fn defect_probe(defect: Defect) -> Probed
+    ensures { result ≡ told (kind_number defect.kind) defect.at 0 0 }
+{
+    told(Answer::from(defect).into(), defect.at as u64, 0, 0)
+}
+
+fn decoded_probe(d: Result<usize, Undecoded>) -> Probed
     ensures { result ≡ decoded_probe d }
 {
     match d {
-        Decoded::Bytes { n } => Probed {
-            kind: 0,
-            first: n as u64,
-            second: 0,
-            third: 0,
-        },
-        Decoded::Bad { at } => Probed {
-            kind: 3,
-            first: at as u64,
-            second: 0,
-            third: 0,
-        },
-        Decoded::Short => Probed {
-            kind: 36,
-            first: 0,
-            second: 0,
-            third: 0,
-        },
+        Ok(n) => told(0, n as u64, 0, 0),
+        Err(Undecoded::Bad { at }) => told(3, at as u64, 0, 0),
+        Err(Undecoded::Short) => told(36, 0, 0, 0),
     }
 }
 
-fn encoded_probe(e: Encoded) -> Probed
+fn encoded_probe(e: Option<usize>) -> Probed
     ensures { result ≡ encoded_probe e }
 {
     match e {
-        Encoded::Text { n } => Probed {
-            kind: 0,
-            first: n as u64,
-            second: 0,
-            third: 0,
-        },
-        Encoded::NoRoom => Probed {
-            kind: 36,
-            first: 0,
-            second: 0,
-            third: 0,
-        },
+        Some(n) => told(0, n as u64, 0, 0),
+        None => told(36, 0, 0, 0),
     }
 }
 
-fn head_probe(h: Head) -> Probed
+// A head's defect is told by 4.
+fn head_probe(h: Reading<Head>) -> Probed
     ensures { result ≡ head_probe h }
 {
     match h {
-        Head::Got { major, value, next } => Probed {
-            kind: 0,
-            first: value,
-            second: next as u64,
-            third: major as u64,
-        },
-        Head::Bad { at } => Probed {
-            kind: 4,
-            first: at as u64,
-            second: 0,
-            third: 0,
-        },
+        Ok(head) => told(0, head.value, head.next as u64, u64::from(head.major)),
+        Err(defect) => told(4, defect.at as u64, 0, 0),
     }
 }
 
-fn content_probe(p: Content) -> Probed
+fn content_probe(p: Reading<Span>) -> Probed
     ensures { result ≡ content_probe p }
 {
     match p {
-        Content::Of { span } => Probed {
-            kind: 0,
-            first: span.from as u64,
-            second: span.to as u64,
-            third: 0,
-        },
-        Content::Bad { kind, at } => Probed {
-            kind,
-            first: at as u64,
-            second: 0,
-            third: 0,
-        },
+        Ok(span) => told(0, span.from as u64, span.to as u64, 0),
+        Err(defect) => defect_probe(defect),
     }
 }
 
-fn item_probe(i: Item) -> Probed
+fn item_probe(i: Reading<usize>) -> Probed
     ensures { result ≡ item_probe i }
 {
     match i {
-        Item::End { next } => Probed {
-            kind: 0,
-            first: next as u64,
-            second: 0,
-            third: 0,
-        },
-        Item::Bad { kind, at } => Probed {
-            kind,
-            first: at as u64,
-            second: 0,
-            third: 0,
-        },
+        Ok(next) => told(0, next as u64, 0, 0),
+        Err(defect) => defect_probe(defect),
     }
 }
 
-fn cidr_probe(p: Cidr) -> Probed
+fn cidr_probe(p: Option<Network>) -> Probed
     ensures { result ≡ cidr_probe p }
 {
     match p {
-        Cidr::Of { network: w } => Probed {
-            kind: 0,
-            first: ((w.a as u64 * 256 + w.b as u64) * 256 + w.c as u64) * 256 + w.d as u64,
-            second: w.size as u64,
-            third: 0,
-        },
-        Cidr::Bad => Probed {
-            kind: 4,
-            first: 0,
-            second: 0,
-            third: 0,
-        },
+        Some(w) => told(
+            0,
+            u64::from(u32::from_be_bytes(w.address)),
+            u64::from(w.size),
+            0,
+        ),
+        None => told(4, 0, 0, 0),
     }
 }
 
 fn bool_probe(b: bool) -> Probed
     ensures { result ≡ bool_probe b }
 {
-    if b {
-        return Probed {
-            kind: 0,
-            first: 1,
-            second: 0,
-            third: 0,
-        };
-    }
-    Probed {
-        kind: 0,
-        first: 0,
-        second: 0,
-        third: 0,
-    }
+    told(0, u64::from(b), 0, 0)
 }
 
 fn class_at(n: u32) -> Class

@@ -1,22 +1,24 @@
 // Scopes, caveats and tokens as the host tests read them. Nothing of the product stands on it.
 #![tactic(auto)]
 
-ghost use Rattle.std.specs.Prelude.{◌≡◌, ◌++◌};
+ghost use Rattle.std.specs.Prelude.{◌≡◌, ◌++◌, ℕ, Option, unwrap_or};
 ghost use Rattle.basis.specs.Basis.{Written};
 ghost use Rattle.token.specs.Tokens.{token_bytes};
-ghost use Rattle.token_cidr.specs.Prefixes.{address_of};
 ghost use Rattle.token_scope.specs.Reading.{scope_of};
 ghost use Rattle.token_caveat.specs.Reading.{caveat_of};
 ghost use Rattle.token.specs.Reading.{token_of};
-ghost use Rattle.probe_parts.specs.PartsProbes.{refused, limit_probe, scope_probe, bit_of, demand_of, demand_probe, caveat_probe, token_probe};
+ghost use Rattle.probe_parts.specs.PartsProbes.{refused, limit_probe, scope_probe, caveat_probe, token_probe};
+ghost use Rattle.probe_parts.specs.PartsProbes.{demand_of, demand_probe};
 ghost use Rattle.token_caveat_values.specs.declared.CaveatAt.TheVariants.{Method, Custom};
 
-use basis::{Part, Span};
+use answers::Answer;
+use basis::Span;
+use cbor_heads::defect::{Defect, Reading};
 use cbor_keys::index;
 use cbor_values::ListAt;
-use token::TokenParts;
-use token_caveat_values::{CaveatAt, CaveatParts, CustomAt};
-use token_scope::{Limit, ScopeParts};
+use token::TokenAt;
+use token_caveat_values::{CaveatAt, CustomAt};
+use token_scope::ScopeAt;
 
 // An answer as numbers: a host cannot take an enum apart by Rattle's layout.
 #[repr(C)]
@@ -26,84 +28,54 @@ pub struct Parts {
     pub numbers: [u64; 10],
 }
 
-fn refused(kind: u32, at: usize) -> Parts
-    ensures { result ≡ refused kind at }
+fn refused(defect: Defect) -> Parts
+    ensures { result ≡ refused defect }
 {
     Parts {
-        kind,
-        numbers: [at as u64, 0, 0, 0, 0, 0, 0, 0, 0, 0],
+        kind: Answer::from(defect).into(),
+        numbers: [defect.at as u64, 0, 0, 0, 0, 0, 0, 0, 0, 0],
     }
 }
 
 // A scope whose prefix lies at `prefix`.
-fn limit_probe(prefix: Span, methods: ListAt, limit: Limit, next: usize) -> Parts
+fn limit_probe(prefix: Span, methods: ListAt, limit: Option<u64>, next: usize) -> Parts
     ensures { result ≡ limit_probe prefix methods limit next }
 {
-    match limit {
-        Limit::Absent => Parts {
-            kind: 0,
-            numbers: [
-                prefix.from as u64,
-                prefix.to as u64,
-                methods.count,
-                methods.span.from as u64,
-                methods.span.to as u64,
-                0,
-                0,
-                next as u64,
-                0,
-                0,
-            ],
-        },
-        Limit::Of { n } => Parts {
-            kind: 0,
-            numbers: [
-                prefix.from as u64,
-                prefix.to as u64,
-                methods.count,
-                methods.span.from as u64,
-                methods.span.to as u64,
-                1,
-                n,
-                next as u64,
-                0,
-                0,
-            ],
-        },
+    let (there, most) = match limit {
+        None => (0, 0),
+        Some(n) => (1, n),
+    };
+    Parts {
+        kind: 0,
+        numbers: [
+            prefix.from as u64,
+            prefix.to as u64,
+            methods.count,
+            methods.span.from as u64,
+            methods.span.to as u64,
+            there,
+            most,
+            next as u64,
+            0,
+            0,
+        ],
     }
 }
 
-fn scope_probe(p: ScopeParts) -> Parts
+fn scope_probe(p: Reading<(ScopeAt, usize)>) -> Parts
     ensures { result ≡ scope_probe p }
 {
     match p {
-        ScopeParts::Bad { kind, at } => refused(kind, at),
-        ScopeParts::Of { scope, next } => {
-            let prefix = scope.prefix;
+        Err(defect) => refused(defect),
+        Ok((scope, next)) => {
             let methods = scope.methods;
             let max_bytes = scope.max_bytes;
-            match prefix {
-                Part::Absent => limit_probe(Span { from: 0, to: 0 }, methods, max_bytes, next),
-                Part::At { span } => limit_probe(span, methods, max_bytes, next),
+            match scope.prefix {
+                None => limit_probe(Span { from: 0, to: 0 }, methods, max_bytes, next),
+                Some(span) => limit_probe(span, methods, max_bytes, next),
             }
         }
     }
-}
-
-fn bit_of(b: bool) -> u64
-    ensures { result ≡ bit_of b }
-{
-    if b {
-        return 1;
-    }
-    0
-}
-
-// An address as one number, which fits 64 bits whatever its four numbers are.
-fn address_of(a: u32, b: u32, c: u32, d: u32) -> u64
-    ensures { result ≡ address_of a b c d }
-{
-    ((a as u64 * 256 + b as u64) * 256 + c as u64) * 256 + d as u64
 }
 
 // Which caveat it is, up to three numbers of it, and its length.
@@ -112,7 +84,7 @@ fn demand_of(t: u32, a: u64, b: u64, c: u64, next: usize) -> Parts
 {
     Parts {
         kind: 0,
-        numbers: [t as u64, a, b, c, 0, 0, 0, 0, 0, next as u64],
+        numbers: [u64::from(t), a, b, c, 0, 0, 0, 0, 0, next as u64],
     }
 }
 
@@ -141,7 +113,7 @@ fn custom_demand(custom: CustomAt, next: usize) -> Parts
     Parts {
         kind: 0,
         numbers: [
-            index::T_CUSTOM as u64,
+            u64::from(index::T_CUSTOM),
             custom.ns.from as u64,
             custom.ns.to as u64,
             custom.value.from as u64,
@@ -166,13 +138,13 @@ fn demand_probe(caveat: CaveatAt, next: usize) -> Parts
         CaveatAt::Method { methods } => methods_demand(methods, next),
         CaveatAt::PathPrefix { span } => span_demand(index::T_PATH_PREFIX, span, next),
         CaveatAt::IpCidr { network } => {
-            let address = address_of(network.a, network.b, network.c, network.d);
-            demand_of(index::T_IP_CIDR, address, network.size as u64, 0, next)
+            let address = u64::from(u32::from_be_bytes(network.address));
+            demand_of(index::T_IP_CIDR, address, u64::from(network.size), 0, next)
         }
         CaveatAt::BytesLe { n } => demand_of(index::T_BYTES_LE, n, 0, 0, next),
         CaveatAt::Rate { per_s, burst } => demand_of(index::T_RATE, per_s, burst, 0, next),
         CaveatAt::Tenant { span } => span_demand(index::T_TENANT, span, next),
-        CaveatAt::Amnesia { on } => demand_of(index::T_AMNESIA, bit_of(on), 0, 0, next),
+        CaveatAt::Amnesia { on } => demand_of(index::T_AMNESIA, u64::from(on), 0, 0, next),
         CaveatAt::GovPolicyDigest { span } => {
             span_demand(index::T_GOV_POLICY_DIGEST, span, next)
         }
@@ -180,21 +152,21 @@ fn demand_probe(caveat: CaveatAt, next: usize) -> Parts
     }
 }
 
-fn caveat_probe(p: CaveatParts) -> Parts
+fn caveat_probe(p: Reading<(CaveatAt, usize)>) -> Parts
     ensures { result ≡ caveat_probe p }
 {
     match p {
-        CaveatParts::Bad { kind, at } => refused(kind, at),
-        CaveatParts::Of { caveat, next } => demand_probe(caveat, next),
+        Err(defect) => refused(defect),
+        Ok((caveat, next)) => demand_probe(caveat, next),
     }
 }
 
-fn token_probe(p: TokenParts) -> Parts
+fn token_probe(p: Reading<TokenAt>) -> Parts
     ensures { result ≡ token_probe p }
 {
     match p {
-        TokenParts::Bad { kind, at } => refused(kind, at),
-        TokenParts::Of { token } => Parts {
+        Err(defect) => refused(defect),
+        Ok(token) => Parts {
             kind: 0,
             numbers: [
                 token.caveats.count,
@@ -233,6 +205,7 @@ pub extern "C" fn probe_read_token(s: &[u8]) -> Parts
     token_probe(token::read_token(s))
 }
 
+// The token's length is told, 0 where the room is too short.
 #[unsafe(no_mangle)]
 pub extern "C" fn probe_write_token(
     count: u64,
@@ -244,7 +217,16 @@ pub extern "C" fn probe_write_token(
     tid: &[u8],
     room: &mut [u8],
 ) -> usize
-    ensures { Written (token_bytes count (caveats.now ++ caveat.now) scope.now tag.now kid.now tid.now) room.old result room.new }
+    ensures { (length : Option ℕ)
+        × Written (token_bytes count (caveats.now ++ caveat.now) scope.now tag.now kid.now tid.now)
+        room.old length room.new
+        × (result ≡ unwrap_or length 0) }
 {
-    token_writing::write_token(count, caveats, caveat, scope, tag, kid, tid, room)
+    let parts = token_writing::Parts {
+        scope,
+        tag,
+        kid,
+        tid,
+    };
+    token_writing::write_token(count, caveats, caveat, parts, room).unwrap_or(0)
 }

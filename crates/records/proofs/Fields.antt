@@ -1,64 +1,31 @@
 -- Strings behind their lengths and records, both ways: what was written is found, and what is found was written so.
-use mathlib.Core.Path.{◌≡◌, refl, sym, ap, subst, ◌∙◌}
+use mathlib.Core.Path.{◌≡◌, refl, ap, subst, ◌∙◌}
 use mathlib.Core.Bool.{true}
-use mathlib.Core.List.{List, [], ◌++◌, append_assoc}
+use mathlib.Core.List.{List, ◌++◌, append_assoc}
 use Prim.Native.Nat.{ℕ, ◌+◌, ◌^◌, ◌≤◌, ◌<◌}
 use native.Mathlib.Omega.{arith}
 use borrow.Author.Tests.{ltb-false, le-ltb}
 use lib.Dec.{ltb}
 use lib.ListN.{length, drop, length-append}
-use Rattle.basis.specs.Basis.{pick, from_to, between, IsBytes}
+use Rattle.std.specs.Prelude.{Some}
+use Rattle.std.proofs.lemmas.Option.{option_and_then_some}
+use Rattle.basis.specs.Basis.{from_to, between, IsBytes}
 use Rattle.basis.specs.declared.Span.{Span}
+use Rattle.basis.proofs.Pairs.{some_same}
 use Rattle.records.specs.declared.RecordAt.{RecordAt}
 use Rattle.basis.proofs.Parts.{past, lies, on}
 use Rattle.cbor_strings.specs.Strings.{content_of}
 use Rattle.cbor_strings.specs.declared.Class.{Class}
 use Rattle.cbor_keys.specs.Maps.{GoodText}
-use Rattle.cbor_keys.proofs.StepLaws.{must_take, must_pass}
 use Rattle.records.specs.Records.{little, counted, record_bytes}
-use Rattle.records.specs.Reading.{run_at, after_run, after_number, after_record, little_at, content_then, length_then, text_at, record_body, record_kind, record_then, read_record}
-use Rattle.records.specs.declared.Run.{Run}
-use Rattle.records.specs.declared.Run.TheVariants.{Of as Found, Bad as NoRun}
-use Rattle.records.specs.declared.Number.{Number}
-use Rattle.records.specs.declared.Number.TheVariants.{Of as Counted, Bad as NoNumber}
-use Rattle.records.specs.declared.RecordParts.{RecordParts}
-use Rattle.records.specs.declared.RecordParts.TheVariants.{Of, Bad}
+use Rattle.records.specs.Reading.{run_at, little_at, text_at, read_record}
+use Rattle.records.proofs.Ways.{taken, passed}
 use Rattle.records.proofs.Littles.{little_length}
 use Rattle.records.proofs.Runs.{ran, run_long, run_read, ends_inside, run_written, number_written, IsNumber, number_read}
 
--- a step of a reading that ended well
-pub record RunWent {A : Type 0} (rest : Span → A) (i : Run) (x : A) : Type 0 where
-  pub part : Span
-  pub was : i ≡ Found part
-  pub goes : rest part ≡ x
-
-pub record NumberWent {A : Type 0} (rest : ℕ → ℕ → A) (i : Number) (x : A) : Type 0 where
-  pub n : ℕ
-  pub next : ℕ
-  pub was : i ≡ Counted n next
-  pub goes : rest n next ≡ x
-
-pub record RecordWent {A : Type 0} (rest : RecordAt → A) (i : RecordParts) (x : A) : Type 0 where
-  pub found : RecordAt
-  pub was : i ≡ Of found
-  pub goes : rest found ≡ x
-
-module _ {A : Type 0} {x bad : A} (never : bad ≡ x → ⊥) where
-  pub record_went : (rest : RecordAt → A) (i : RecordParts) → after_record bad rest i ≡ x → RecordWent rest i x
-  record_went rest Bad e = let z = never e in elim z [ ]
-  record_went rest (Of found) e = record { found = found; was = refl; goes = e }
-
-  pub run_went : (rest : Span → A) (i : Run) → after_run bad rest i ≡ x → RunWent rest i x
-  run_went rest NoRun e = let z = never e in elim z [ ]
-  run_went rest (Found part) e = record { part = part; was = refl; goes = e }
-
-  pub number_went : (rest : ℕ → ℕ → A) (i : Number) → after_number bad rest i ≡ x → NumberWent rest i x
-  number_went rest NoNumber e = let z = never e in elim z [ ]
-  number_went rest (Counted n next) e = record { n = n; next = next; was = refl; goes = e }
-
 pub text_written : (width : ℕ) (class : Class) (low high : ℕ) (x : List ℕ) → width ≤ 8 → high < 256 ^ width → GoodText class low high x → (s t : List ℕ) (at : ℕ) → at ≤ length s
-    → drop at s ≡ counted width x ++ t → text_at s width class low high at ≡ Found (from_to (at + width) (at + width + length x))
-unfolding counted text_at length_then content_then
+    → drop at s ≡ counted width x ++ t → text_at s width class low high at ≡ Some (from_to (at + width) (at + width + length x))
+unfolding counted text_at
 text_written width class low high x w h g s t at i e =
     let lo = g.enough in
     let hi = g.most in
@@ -79,24 +46,21 @@ pub record IsText (width : ℕ) (class : Class) (low high : ℕ) (s : List ℕ) 
   pub inside : part.to ≤ length s
   pub there : drop at s ≡ counted width tree ++ drop part.to s
 
-pub text_read : (width : ℕ) (class : Class) (low high : ℕ) (s : List ℕ) → IsBytes s → (at : ℕ) {part : Span} → text_at s width class low high at ≡ Found part
+pub text_read : (width : ℕ) (class : Class) (low high : ℕ) (s : List ℕ) → IsBytes s → (at : ℕ) {part : Span} → text_at s width class low high at ≡ Some part
     → IsText width class low high s at part
-unfolding counted text_at length_then content_then
+unfolding counted text_at
 text_read width class low high s b at {part} e =
-    let m = number_went never (length_then s class low high) (little_at s at width) e in
-    let p = must_pass NoRun (pick (ltb high m.n) NoRun (after_run NoRun (content_then s class) (run_at s m.next m.n))) never (ltb m.n low) m.goes in
-    let q = must_pass NoRun (after_run NoRun (content_then s class) (run_at s m.next m.n)) never (ltb high m.n) p.1 in
-    let r = run_went never (content_then s class) (run_at s m.next m.n) q.1 in
-    let c = must_take (Found r.part) NoRun never (content_of class (between s r.part)) r.goes in
-    found m.n m.next (number_read s b at width m.was).there (ltb-false m.n low p.0) (ltb-false high m.n q.0) (r.was ∙ c.1)
-    (ap (λ (i : Run). after_run (content_of class []) (λ p. content_of class (between s p)) i) (sym c.1) ∙ c.0)
+    option_and_then_some _ (little_at s at width) part e (λ m was goes.
+    let p = passed (ltb m.0 low) goes in
+    let q = passed (ltb high m.0) p.1 in
+    option_and_then_some _ (run_at s m.1 m.0) part q.1 (λ run ran held.
+    let c = taken (content_of class (between s run)) held in
+    subst (IsText width class low high s at) (some_same c.1)
+    (found m.0 m.1 run (number_read s b at width was).there (ltb-false m.0 low p.0) (ltb-false high m.0 q.0) ran c.0)))
   where
-    never : NoRun ≡ Found part → ⊥
-    never e = let z : ◌≡◌ {A = ℕ} 0 1 = cc in omega arith
-
-    found : (n next : ℕ) → drop at s ≡ little width n ++ drop next s → low ≤ n → n ≤ high → run_at s next n ≡ Found part → content_of class (between s part) ≡ true
+    found : (n next : ℕ) (part : Span) → drop at s ≡ little width n ++ drop next s → low ≤ n → n ≤ high → run_at s next n ≡ Some part → content_of class (between s part) ≡ true
         → IsText width class low high s at part
-    found n next d l h e c =
+    found n next part d l h e c =
         let k = run_long s next n e in
         let r = ran s next n e in
         record {
@@ -109,8 +73,8 @@ text_read width class low high s b at {part} e =
         }
 
 pub record_written : (kind : ℕ) (body : List ℕ) → kind < 65536 → length body < 65536 → (s t : List ℕ) (at : ℕ) → at ≤ length s → drop at s ≡ record_bytes kind body ++ t
-    → read_record s at ≡ Of (record { kind = kind; body = from_to (at + 2 + 2) (at + 2 + 2 + length body) })
-unfolding record_bytes read_record record_then record_kind
+    → read_record s at ≡ Some (record { kind = kind; body = from_to (at + 2 + 2) (at + 2 + 2 + length body) })
+unfolding record_bytes read_record
 record_written kind body k l s t at i e =
     let x = little 2 (length body) in
     let y = little 2 kind in
@@ -135,22 +99,15 @@ pub record IsRecord (s : List ℕ) (at : ℕ) (r : RecordAt) : Type 0 where
   pub held : drop r.body.from s ≡ between s r.body ++ drop r.body.to s
   pub there : drop at s ≡ record_bytes r.kind (between s r.body) ++ drop r.body.to s
 
-pub record_read : (s : List ℕ) → IsBytes s → (at : ℕ) {r : RecordAt} → read_record s at ≡ Of r → IsRecord s at r
-unfolding record_bytes read_record record_then record_kind
+pub record_read : (s : List ℕ) → IsBytes s → (at : ℕ) {r : RecordAt} → read_record s at ≡ Some r → IsRecord s at r
+unfolding record_bytes read_record
 record_read s b at {r} e =
-    let m = number_went never (record_then s) (little_at s at 2) e in
-    let k = number_went never (record_kind s m.n) (little_at s m.next 2) m.goes in
-    let w = run_went never (record_body k.n) (run_at s k.next m.n) k.goes in
-    subst (IsRecord s at) (same_record w.goes)
-    (found m.n m.next k.n k.next w.part (number_read s b at 2 m.was) (number_read s b m.next 2 k.was) w.was)
+    option_and_then_some _ (little_at s at 2) r e (λ m was_m goes.
+    option_and_then_some _ (little_at s m.1 2) r goes (λ k was_k goes.
+    option_and_then_some _ (run_at s k.1 m.0) r goes (λ body was same.
+    subst (IsRecord s at) (some_same same) (found m.0 m.1 k.0 k.1 body (number_read s b at 2 was_m) (number_read s b m.1 2 was_k) was))))
   where
-    never : Bad ≡ Of r → ⊥
-    never e = let z : ◌≡◌ {A = ℕ} 0 1 = cc in omega arith
-
-    same_record : {a b : RecordAt} → Of a ≡ Of b → a ≡ b
-    same_record e = cc
-
-    found : (n p k q : ℕ) (part : Span) → IsNumber s at 2 n p → IsNumber s p 2 k q → run_at s q n ≡ Found part → IsRecord s at (record { kind = k; body = part })
+    found : (n p k q : ℕ) (part : Span) → IsNumber s at 2 n p → IsNumber s p 2 k q → run_at s q n ≡ Some part → IsRecord s at (record { kind = k; body = part })
     found n p k q part x y v =
         let r = ran s q n v in
         let l = run_long s q n v in

@@ -1,4 +1,5 @@
 pub mod Littles
+pub mod Ways
 pub mod Runs
 pub mod Fields
 pub mod OneAnswer

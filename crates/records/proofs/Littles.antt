@@ -1,51 +1,18 @@
--- Little-endian numbers: the loop that reads one, and that writing and reading undo each other.
-use mathlib.Core.Path.{◌≡◌, refl, sym, ap, ap₂, ◌∙◌}
+-- Little-endian numbers: writing and reading undo each other.
+use mathlib.Core.Path.{◌≡◌, refl, ap, ap₂, ◌∙◌}
 use mathlib.Core.List.{List, [], ◌∷◌}
-use Prim.Native.Nat.{ℕ, zero, suc, ◌+◌, ◌-◌, ◌*◌, ◌/◌, ◌%◌, ◌^◌, ◌≤◌, ◌<◌}
-use native.Mathlib.Nat.{pow-suc, pow-le-pow_right, div-lt_iff_lt-mul, zero-lt-suc, div-add-mod'}
+use Prim.Native.Nat.{ℕ, zero, suc, ◌+◌, ◌*◌, ◌/◌, ◌%◌, ◌^◌, ◌<◌}
+use native.Mathlib.Nat.{pow-suc, div-lt_iff_lt-mul, zero-lt-suc, div-add-mod'}
 use native.Mathlib.Omega.{arith}
 use lib.Arith.{digits_lt, digits_div, digits_mod}
-use lib.ListN.{length, drop, get_or}
-use lib.Seq.{drop-cons, drop-length}
+use lib.ListN.{length}
 use Rattle.basis.specs.Basis.{IsBytes}
 use Rattle.cbor_heads.proofs.Numbers.{more, most}
 use Rattle.records.specs.Records.{little, little_of}
 
--- the number of what stands from i on, and that it leaves room for the rest
-pub record Summed (s : List ℕ) (v i : ℕ) : Type 0 where
-  pub inside : i ≤ length s
-  pub short : length s ≤ 8
-  pub small : v < 256 ^ (8 - i)
-  pub sum : v ≡ little_of (drop i s)
-
-pub summed_none : (s : List ℕ) → length s ≤ 8 → Summed s 0 (length s)
-unfolding little_of
-summed_none s h = record { inside = omega arith; short = h; small = pow-le-pow_right {n = 256} (zero-lt-suc 255) {i = 0} {j = 8 - length s} (omega arith); sum = rw drop-length }
-
-module _ {s : List ℕ} {v i : ℕ} (w : Summed s v i) where
-  pub room_left : 0 < i → v < 72057594037927936
-  room_left h =
-      let k : 8 - i < 8 = omega (arith, w.inside, w.short) in
-      let q = most (8 - i) k in
-      let m = more (8 - i) {b = 255} w.small (omega arith) in
-      omega arith
-
-  pub summed_one : 0 < i → get_or s (i - 1) 0 < 256 → Summed s (v * 256 + get_or s (i - 1) 0) (i - 1)
-  unfolding little_of
-  summed_one h b =
-      let k : 8 - i + 1 ≡ 8 - (i - 1) = omega (arith, w.inside, w.short) in
-      let j : suc (i - 1) ≡ i = omega arith in
-      record {
-        inside = omega (arith, w.inside);
-        short = w.short;
-        small = rw k at (more (8 - i) w.small b);
-        sum =
-            ap (λ (x : ℕ). x * 256 + get_or s (i - 1) 0) (w.sum ∙ ap (λ (n : ℕ). little_of (drop n s)) (sym j))
-            ∙ sym (ap little_of (drop-cons s (i - 1) 0 (omega (arith, w.inside))));
-      }
-
-  pub summed_all : i ≤ 0 → v ≡ little_of s
-  summed_all h = let z : i ≡ 0 = omega arith in w.sum ∙ ap (λ (j : ℕ). little_of (drop j s)) z
+-- one byte more still fits
+pub room : (k : ℕ) {n : ℕ} → k < 8 → n < 256 ^ k → n * 256 + 255 < 2 ^ 64
+room k h w = omega (arith, most k h, more k {b = 255} w (omega arith))
 
 pub little_length : (k n : ℕ) → length (little k n) ≡ k
 unfolding little

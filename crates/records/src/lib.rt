@@ -9,20 +9,6 @@ ghost use Rattle.records.specs.Reading.{run_at, little_at, text_at, read_record}
 use basis::Span;
 use cbor_strings::Class;
 
-// Some bytes, by where they lie.
-#[derive(Clone, Copy)]
-pub enum Run {
-    Of { span: Span },
-    Bad,
-}
-
-// A number, and where it ends.
-#[derive(Clone, Copy)]
-pub enum Number {
-    Of { n: u64, next: usize },
-    Bad,
-}
-
 // A record's kind, and where its body lies.
 #[derive(Clone, Copy)]
 pub struct RecordAt {
@@ -30,102 +16,68 @@ pub struct RecordAt {
     pub body: Span,
 }
 
-#[derive(Clone, Copy)]
-pub enum RecordParts {
-    Of { record: RecordAt },
-    Bad,
-}
-
+#[tactic(auto, unfolding(crate::specs::Records::little_of))]
 fn little(s: &[u8]) -> u64
     requires { length s.now ≤ 8 }
     ensures { result ≡ little_of s.now }
 {
-    let mut v: u64 = 0;
-    let mut i: usize = s.len();
-    while 0 < i {
-        i -= 1;
-        v = v * 256 + (s[i] as u64);
+    let mut n: u64 = 0;
+    for &b in s.iter().rev() {
+        n = n * 256 + u64::from(b);
     }
-    v
+    n
 }
 
 // n bytes from a place on.
-pub fn run_at(s: &[u8], at: usize, n: u64) -> Run
+#[tactic(auto, unfolding(crate::specs::Reading::run_at))]
+pub fn run_at(s: &[u8], at: usize, n: u64) -> Option<Span>
     ensures { result ≡ run_at s.now at n }
 {
-    if s.len() < at {
-        return Run::Bad;
+    if s.len() < at || s.len() - at < n as usize {
+        return None;
     }
-    if s.len() - at < n as usize {
-        return Run::Bad;
-    }
-    Run::Of {
-        span: Span {
-            from: at,
-            to: at + n as usize,
-        },
-    }
+    Some(Span {
+        from: at,
+        to: at + n as usize,
+    })
 }
 
-// A number of so many bytes, at most eight.
-pub fn little_at(s: &[u8], at: usize, width: u8) -> Number
+// A number of so many bytes, at most eight, and where it ends.
+#[tactic(auto, using(crate::proofs::Runs::slices), unfolding(crate::specs::Reading::little_at))]
+pub fn little_at(s: &[u8], at: usize, width: u8) -> Option<(u64, usize)>
     ensures { result ≡ little_at s.now at width }
 {
     if 8 < width {
-        return Number::Bad;
+        return None;
     }
-    match run_at(s, at, width as u64) {
-        Run::Bad => Number::Bad,
-        Run::Of { span } => {
-            let from = span.from;
-            let to = span.to;
-            let n = little(&s[from..to]);
-            Number::Of { n, next: to }
-        }
-    }
+    // sliced: `basis::lend` was tried here, and verify has 5 in 100 instructions more
+    let Span { from, to } = run_at(s, at, u64::from(width))?;
+    Some((little(&s[from..to]), to))
 }
 
 // A string of low to high bytes of a class, behind its length in so many bytes.
-pub fn text_at(s: &[u8], at: usize, width: u8, class: Class, low: u64, high: u64) -> Run
+#[tactic(auto, unfolding(crate::specs::Reading::text_at))]
+pub fn text_at(s: &[u8], at: usize, width: u8, class: Class, low: u64, high: u64) -> Option<Span>
     ensures { result ≡ text_at s.now width class low high at }
 {
-    match little_at(s, at, width) {
-        Number::Bad => Run::Bad,
-        Number::Of { n, next } => {
-            if n < low {
-                return Run::Bad;
-            }
-            if high < n {
-                return Run::Bad;
-            }
-            match run_at(s, next, n) {
-                Run::Bad => Run::Bad,
-                Run::Of { span } => {
-                    let from = span.from;
-                    let to = span.to;
-                    if cbor_strings::content_is(&s[from..to], class) {
-                        return Run::Of { span };
-                    }
-                    Run::Bad
-                }
-            }
-        }
+    let (n, next) = little_at(s, at, width)?;
+    if n < low || high < n {
+        return None;
     }
+    let span = run_at(s, next, n)?;
+    if cbor_strings::content_is(basis::lend(s, span), class) {
+        return Some(span);
+    }
+    None
 }
 
-pub fn record_at(s: &[u8], at: usize) -> RecordParts
+// A record: the length of its body, its kind, its body.
+#[tactic(auto, unfolding(crate::specs::Reading::read_record))]
+pub fn record_at(s: &[u8], at: usize) -> Option<RecordAt>
     ensures { result ≡ read_record s.now at }
 {
-    match little_at(s, at, 2) {
-        Number::Bad => RecordParts::Bad,
-        Number::Of { n, next: p } => match little_at(s, p, 2) {
-            Number::Bad => RecordParts::Bad,
-            Number::Of { n: kind, next: q } => match run_at(s, q, n) {
-                Run::Bad => RecordParts::Bad,
-                Run::Of { span: body } => RecordParts::Of {
-                    record: RecordAt { kind, body },
-                },
-            },
-        },
-    }
+    let (n, p) = little_at(s, at, 2)?;
+    let (kind, q) = little_at(s, p, 2)?;
+    let body = run_at(s, q, n)?;
+    Some(RecordAt { kind, body })
 }

@@ -6,17 +6,18 @@ use native.Mathlib.Omega.{arith}
 use borrow.Author.Tests.{ltb-false, le-ltb}
 use lib.Dec.{ltb}
 use lib.ListN.{length, drop}
-use Rattle.basis.specs.Basis.{pick, from_to, between, IsBytes}
+use Rattle.std.specs.Prelude.{Some}
+use Rattle.std.proofs.lemmas.Option.{option_and_then_some}
+use Rattle.basis.specs.Basis.{from_to, between, IsBytes}
+use Rattle.basis.proofs.Pairs.{some_pair}
 use Rattle.basis.proofs.Parts.{past, lies, on}
-use Rattle.cbor_keys.proofs.StepLaws.{must_pass}
 use Rattle.records.specs.Records.{little, counted}
 use Rattle.records.specs.Reading.{little_at}
 use Rattle.records.proofs.Littles.{little_length}
 use Rattle.records.proofs.Runs.{ends_inside, number_written, IsNumber, number_read}
-use Rattle.records.proofs.Fields.{number_went}
-use Rattle.records_request.specs.Reading.{numbers_of, flags_then, skew_then, size_then, now_then, fixed_at}
+use Rattle.records.proofs.Ways.{passed}
+use Rattle.records_request.specs.Reading.{numbers_of, fixed_at}
 use Rattle.records_request.specs.declared.Numbers.{Numbers}
-use Rattle.records_request.specs.declared.Fixed.TheVariants.{Of, Bad}
 
 -- a place inside, with t behind it
 pub record Behind (s t : List ℕ) (at : ℕ) : Type 0 where
@@ -38,8 +39,8 @@ behind_text s x t at w =
 
 pub fixed_written : (s t : List ℕ) (now size skew flags : ℕ) → now < 2 ^ 64 → size < 2 ^ 64 → skew ≤ 300 → flags < 32
     → Behind s (little 8 now ++ (little 8 size ++ (little 2 skew ++ (little 1 flags ++ t)))) 0
-    → (fixed_at s ≡ Of (numbers_of now size skew flags) 19) × Behind s t 19
-unfolding fixed_at now_then size_then skew_then flags_then
+    → (fixed_at s ≡ Some (numbers_of now size skew flags, 19)) × Behind s t 19
+unfolding fixed_at
 fixed_written s t now size skew flags gn gz gk gf w =
     let t3 = little 1 flags ++ t in
     let t2 = little 2 skew ++ t3 in
@@ -67,33 +68,27 @@ pub record IsFixed (s : List ℕ) (numbers : Numbers) (next : ℕ) : Type 0 wher
   pub small_flags : numbers.flags < 32
   pub there : drop 0 s ≡ little 8 numbers.now ++ (little 8 numbers.size ++ (little 2 numbers.skew ++ (little 1 numbers.flags ++ drop next s)))
 
-pub fixed_read : (s : List ℕ) → IsBytes s → {numbers : Numbers} {next : ℕ} → fixed_at s ≡ Of numbers next → IsFixed s numbers next
-unfolding fixed_at now_then size_then skew_then flags_then
+pub fixed_read : (s : List ℕ) → IsBytes s → {numbers : Numbers} {next : ℕ} → fixed_at s ≡ Some (numbers, next) → IsFixed s numbers next
+unfolding fixed_at
 fixed_read s b {numbers} {next} e =
-    let n = number_went never (now_then s) (little_at s 0 8) e in
-    let z = number_went never (size_then s n.n) (little_at s n.next 8) n.goes in
-    let k = number_went never (skew_then s n.n z.n) (little_at s z.next 2) z.goes in
-    let f = number_went never (flags_then n.n z.n k.n) (little_at s k.next 1) k.goes in
-    let all = Of (numbers_of n.n z.n k.n f.n) f.next in
-    let p = must_pass Bad (pick (ltb 31 f.n) Bad all) never (ltb 300 k.n) f.goes in
-    let q = must_pass Bad all never (ltb 31 f.n) p.1 in
-    found n.n z.n k.n f.n n.next z.next k.next f.next
-    (number_read s b 0 8 n.was) (number_read s b n.next 8 z.was) (number_read s b z.next 2 k.was) (number_read s b k.next 1 f.was)
-    (ltb-false 300 k.n p.0) (ltb-false 31 f.n q.0) q.1
+    option_and_then_some _ (little_at s 0 8) (numbers, next) e (λ n was_n e.
+    option_and_then_some _ (little_at s n.1 8) (numbers, next) e (λ z was_z e.
+    option_and_then_some _ (little_at s z.1 2) (numbers, next) e (λ k was_k e.
+    option_and_then_some _ (little_at s k.1 1) (numbers, next) e (λ f was_f e.
+    let p = passed (ltb 300 k.0) e in
+    let q = passed (ltb 31 f.0) p.1 in
+    let o = some_pair q.1 in
+    subst (λ (v : Numbers). IsFixed s v next) o.0
+    (read (number_read s b 0 8 was_n) (number_read s b n.1 8 was_z) (number_read s b z.1 2 was_k) (number_read s b k.1 1 was_f) (ltb-false 300 k.0 p.0)
+    (ltb-false 31 f.0 q.0) o.1)))))
   where
-    never : Bad ≡ Of numbers next → ⊥
-    never e = let z : ◌≡◌ {A = ℕ} 0 1 = cc in omega arith
-
-    found : (n z k f p q r t : ℕ) → IsNumber s 0 8 n p → IsNumber s p 8 z q → IsNumber s q 2 k r → IsNumber s r 1 f t → k ≤ 300 → f ≤ 31
-        → Of (numbers_of n z k f) t ≡ Of numbers next → IsFixed s numbers next
-    found n z k f p q r t a b c d g h e =
-        let j : numbers_of n z k f ≡ numbers = cc in
-        let te : t ≡ next = cc in
-        subst (λ (m : Numbers). IsFixed s m next) j
-        (record {
-          small_now = a.small;
-          small_size = b.small;
-          small_skew = g;
-          small_flags = omega (arith, h);
-          there = rw (← te) (on (little 8 n) a.there (on (little 8 z) b.there (on (little 2 k) c.there d.there)));
-        })
+    read : {n p z q k r f m : ℕ} → IsNumber s 0 8 n p → IsNumber s p 8 z q → IsNumber s q 2 k r → IsNumber s r 1 f m → k ≤ 300 → f ≤ 31 → m ≡ next
+        → IsFixed s (numbers_of n z k f) next
+    read {n} {p} {z} {q} {k} {r} {f} {m} wn wz wk wf sk sf e =
+        record {
+          small_now = wn.small;
+          small_size = wz.small;
+          small_skew = sk;
+          small_flags = omega arith;
+          there = rw (← e) (on (little 8 n) wn.there (on (little 8 z) wz.there (on (little 2 k) wk.there wf.there)));
+        }

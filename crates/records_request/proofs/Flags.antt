@@ -1,14 +1,19 @@
 -- The flags: each tells of one part, in both directions.
-use mathlib.Core.Path.{◌≡◌, refl}
+use mathlib.Core.Path.{◌≡◌, refl, sym, ◌∙◌}
 use mathlib.Core.Bool.{Bool, true, false}
 use mathlib.Core.Option.{Option, some, none}
-use Prim.Native.Nat.{ℕ, ◌+◌, ◌*◌, ◌/◌, ◌%◌, ◌≤◌, ◌<◌}
+use Prim.Native.Nat.{ℕ, ◌+◌, ◌*◌, ◌/◌, ◌%◌, ◌^◌, ◌≤◌, ◌<◌}
+use native.Mathlib.Nat.{add-zero}
 use native.Mathlib.Omega.{arith}
-use borrow.Author.Tests.{eqb-true, eqb-false}
+use borrow.Author.Tests.{eqb-true, eqb-false, eq-eqb, ne_eqb}
 use lib.Dec.{eqb}
+use Rattle.std.specs.Prelude.{Option as Maybe, Some, None}
+use Rattle.std.proofs.lemmas.Nat.{pow_pos}
+use Rattle.std.proofs.lemmas.Nat.Bits.{and_pow}
 use Rattle.basis.specs.Basis.{pick}
 use Rattle.cbor_keys.specs.Maps.{present}
-use Rattle.records_request.specs.Requests.{Request, flags_of}
+use Rattle.records_request.specs.Requests.{Request, amnesia_flag, flags_of}
+use Rattle.records_request.specs.Reading.{is_set, if_flagged}
 
 few : {A : Type 0} (o : Option A) → present o ≤ 1
 few none = omega arith
@@ -51,18 +56,36 @@ unfolding flags_of
 flags_read flags x w =
     rw (← w.amnesia_bit, ← w.peer_bit, ← w.audience_bit, ← w.digest_bit, ← w.rate_bit) (bits flags w.small)
 
--- bit 0 as the answer's amnesia
-pub amnesia_is : (b : Bool) (n : ℕ) → n ≡ pick b 1 0 → b ≡ eqb n 1
-amnesia_is true n e = rw e
-amnesia_is false n e = rw e
-
-pub amnesia_was : (n : ℕ) → n % 2 ≡ pick (eqb (n % 2) 1) 1 0
-amnesia_was n = by (eqb (n % 2) 1) refl
+-- the bit that the test of a flag asks for
+pub bit_is : (k n : ℕ) → n / 2 ^ k % 2 ≡ pick (is_set (2 ^ k) n) 1 0
+bit_is k n = by (eqb (n / 2 ^ k % 2) 0) refl
   where
-    by : (b : Bool) → eqb (n % 2) 1 ≡ b → n % 2 ≡ pick b 1 0
-    by true q = eqb-true (n % 2) 1 q
-    by false q = let f = eqb-false (n % 2) 1 q in omega (arith, f)
+    by : (b : Bool) → eqb (n / 2 ^ k % 2) 0 ≡ b → n / 2 ^ k % 2 ≡ pick (is_set (2 ^ k) n) 1 0
+    by true q =
+        let z = eqb-true (n / 2 ^ k % 2) 0 q in
+        rw (and_pow n k, z, eq-eqb (0 * 2 ^ k) 0 (omega arith))
+    by false q =
+        let z = eqb-false (n / 2 ^ k % 2) 0 q in
+        let o : n / 2 ^ k % 2 ≡ 1 = omega arith in
+        rw (and_pow n k, o, ne_eqb (1 * 2 ^ k) 0 (omega (arith, pow_pos k)))
 
--- a part that is read as flagged
-pub flag_set : (n : ℕ) → eqb (n % 2) 0 ≡ false → n % 2 ≡ 1
-flag_set n q = let f = eqb-false (n % 2) 0 q in omega (arith, f)
+same_bit : (a b : Bool) → ◌≡◌ {A = ℕ} (pick a 1 0) (pick b 1 0) → a ≡ b
+same_bit true true e = refl
+same_bit true false e = cc
+same_bit false true e = cc
+same_bit false false e = refl
+
+-- bit 0 as the answer's amnesia
+pub amnesia_was : (n : ℕ) → n % 2 ≡ pick (is_set amnesia_flag n) 1 0
+amnesia_was n = omega (arith, bit_is 0 n)
+
+pub amnesia_is : (b : Bool) (n : ℕ) → n % 2 ≡ pick b 1 0 → b ≡ is_set amnesia_flag n
+amnesia_is b n e = same_bit b (is_set amnesia_flag n) (sym e ∙ amnesia_was n)
+
+module _ {A : Type 0} (k flags at : ℕ) where
+  -- what is not flagged is not looked for, and takes no room
+  pub not_flagged : (found : Maybe (A × ℕ)) → flags / 2 ^ k % 2 ≡ 0 → if_flagged (2 ^ k) flags at found ≡ Some (None, at + 0)
+  not_flagged found z = let e = same_bit false (is_set (2 ^ k) flags) (sym z ∙ bit_is k flags) in rw (← e, add-zero)
+
+  pub flagged : {found : Maybe (A × ℕ)} {part : A} {next : ℕ} → flags / 2 ^ k % 2 ≡ 1 → found ≡ Some (part, next) → if_flagged (2 ^ k) flags at found ≡ Some (Some part, next)
+  flagged z f = let e = same_bit true (is_set (2 ^ k) flags) (sym z ∙ bit_is k flags) in rw (← e, f)

@@ -3,16 +3,17 @@ use mathlib.Core.Path.{◌≡◌}
 use mathlib.Core.List.{List}
 use mathlib.Core.Option.{Option, some, none}
 use Prim.Native.Nat.{ℕ}
+use Rattle.std.specs.Prelude.{Option as Maybe, Some, None}
 use Rattle.basis.specs.Basis.{between}
 use Rattle.basis.proofs.Held.{PartHeld}
 use Rattle.records_request.specs.Requests.{PerSecond, Request}
-use Rattle.records_request.specs.declared.RateAt.{RateAt}
-use Rattle.records_request.specs.declared.RateAt.TheVariants.{Absent as NoRate, Of as RateIs}
+use Rattle.records_request.specs.Reading.{rate_with}
+use Rattle.records_request.specs.declared.Rate.{Rate}
 use Rattle.records_request.specs.declared.RequestAt.{RequestAt}
 
-abbrev pub rate_of : Option PerSecond → RateAt
-rate_of none = NoRate
-rate_of (some r) = RateIs r.per_s r.burst
+abbrev pub rate_of : Option PerSecond → Maybe Rate
+rate_of none = None
+rate_of (some r) = Some (rate_with r.per_s r.burst)
 
 -- the parts hold exactly x's
 pub record Holds (s : List ℕ) (x : Request) (parts : RequestAt) : Type 0 where

@@ -1,6 +1,7 @@
 pub mod Holds
 pub mod Flags
 pub mod FixedLaws
+pub mod FlaggedParts
 pub mod ExtrasWritten
 pub mod StringsWritten
 pub mod RequestWritten

@@ -1,27 +1,23 @@
 -- One request for one encoding: what the answer's parts hold settles the request, and so does its encoding.
-use mathlib.Core.Path.{◌≡◌, refl, sym, ap, ap₂, subst, ◌∙◌}
+use mathlib.Core.Path.{◌≡◌, refl, sym, ap, subst, ◌∙◌}
 use mathlib.Core.List.{List}
 use mathlib.Core.Option.{Option, some, none}
 use Prim.Native.Nat.{ℕ}
-use native.Mathlib.Omega.{arith}
 use Rattle.records_request.specs.Requests.{PerSecond, Request, encode_request, GoodRequest}
 use Rattle.records_request.specs.declared.RequestAt.{RequestAt}
-use Rattle.records_request.specs.declared.RequestParts.TheVariants.{Of}
+use Rattle.records_request.specs.declared.Rate.{Rate}
+use Rattle.basis.proofs.Pairs.{some_same}
 use Rattle.basis.proofs.Held.{part_held_one}
 use Rattle.records_request.proofs.Holds.{rate_of, Holds}
 use Rattle.records_request.proofs.RequestWritten.{request_written}
 
-abbrev per_second : ℕ → ℕ → PerSecond
-per_second n b = record { per_s = n; burst = b }
-
 rate_one : (o p : Option PerSecond) → rate_of o ≡ rate_of p → o ≡ p
 rate_one none none e = refl
-rate_one none (some y) e = let z : ◌≡◌ {A = ℕ} 0 1 = cc in let z : ⊥ = omega arith in elim z [ ]
-rate_one (some x) none e = let z : ◌≡◌ {A = ℕ} 0 1 = cc in let z : ⊥ = omega arith in elim z [ ]
+rate_one none (some y) e = cc
+rate_one (some x) none e = cc
 rate_one (some x) (some y) e =
-    let n : x.per_s ≡ y.per_s = cc in
-    let b : x.burst ≡ y.burst = cc in
-    ap some (ap₂ per_second n b)
+    let r = some_same e in
+    ap some (ap (λ (r : Rate). record { per_s = r.per_s; burst = r.burst }) r)
 
 -- a request that has x's fields is x
 same : (x y : Request) → x.now ≡ y.now → x.size ≡ y.size → x.skew ≡ y.skew → x.amnesia ≡ y.amnesia → x.peer ≡ y.peer → x.digest ≡ y.digest
@@ -58,7 +54,4 @@ request_one x y gx gy e =
     let s = encode_request x in
     let a = request_written x gx s refl in
     let b = request_written y gy s e in
-    holds_one s x y b.parts (subst (Holds s x) (same_request (sym a.answer ∙ b.answer)) a.holds) b.holds
-  where
-    same_request : {p q : RequestAt} → Of p ≡ Of q → p ≡ q
-    same_request e = cc
+    holds_one s x y b.parts (subst (Holds s x) (some_same (sym a.answer ∙ b.answer)) a.holds) b.holds

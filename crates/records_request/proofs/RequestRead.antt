@@ -1,23 +1,17 @@
 -- What reads well as a request is a request within limits, written, and the answer's parts hold what is its.
 use mathlib.Core.Path.{◌≡◌, refl, subst}
 use mathlib.Core.List.{List}
-use Prim.Native.Nat.{ℕ, ◌%◌}
-use native.Mathlib.Omega.{arith}
-use lib.Dec.{eqb}
+use Prim.Native.Nat.{ℕ}
+use Rattle.std.specs.Prelude.{Some}
+use Rattle.std.proofs.lemmas.Option.{option_and_then_some}
 use Rattle.basis.specs.Basis.{IsBytes}
-use Rattle.records_request.specs.Requests.{Request, flags_of, encode_request, GoodRequest}
-use Rattle.records_request.specs.Reading.{after_fixed, after_extras, after_strings, fixed_at, extras_at, strings_at, request_with, strings_then, extras_next, fixed_then, request_of}
+use Rattle.basis.proofs.Pairs.{some_same}
+use Rattle.records_request.specs.Requests.{Request, amnesia_flag, flags_of, encode_request, GoodRequest}
+use Rattle.records_request.specs.Reading.{is_set, fixed_at, extras_at, strings_at, request_with, request_of}
 use Rattle.records_request.specs.declared.Numbers.{Numbers}
-use Rattle.records_request.specs.declared.Fixed.{Fixed}
-use Rattle.records_request.specs.declared.Fixed.TheVariants.{Of as FixedOf, Bad as NoFixed}
 use Rattle.records_request.specs.declared.ExtrasAt.{ExtrasAt}
-use Rattle.records_request.specs.declared.Extras.{Extras}
-use Rattle.records_request.specs.declared.Extras.TheVariants.{Of as ExtrasOf, Bad as NoExtras}
 use Rattle.records_request.specs.declared.StringsAt.{StringsAt}
-use Rattle.records_request.specs.declared.Strings.{Strings}
-use Rattle.records_request.specs.declared.Strings.TheVariants.{Of as StringsOf, Bad as NoStrings}
 use Rattle.records_request.specs.declared.RequestAt.{RequestAt}
-use Rattle.records_request.specs.declared.RequestParts.TheVariants.{Of, Bad}
 use Rattle.records_request.proofs.Holds.{Holds}
 use Rattle.records_request.proofs.Flags.{flags_read, amnesia_was}
 use Rattle.records_request.proofs.FixedLaws.{IsFixed, fixed_read}
@@ -41,7 +35,7 @@ module _ (s : List ℕ) (b : IsBytes s) where
         now = n.now;
         size = n.size;
         skew = n.skew;
-        amnesia = eqb (f % 2) 1;
+        amnesia = is_set amnesia_flag f;
         peer = x.peer;
         digest = x.digest;
         rate = x.rate;
@@ -88,28 +82,11 @@ module _ (s : List ℕ) (b : IsBytes s) where
         };
       }
 
-  module _ {parts : RequestAt} where
-    never : Bad ≡ Of parts → ⊥
-    never e = let z : ◌≡◌ {A = ℕ} 0 1 = cc in omega arith
-
-    same_request : {x : RequestAt} → Of x ≡ Of parts → x ≡ parts
-    same_request e = cc
-
-    from_strings : (n : Numbers) (i : ℕ) (x : ExtrasAt) (j : ℕ) → IsFixed s n i → AreExtras s n.flags i x j → (q : Strings) → strings_at s n.flags j ≡ q
-        → after_strings Bad (strings_then n x) q ≡ Of parts → IsRequest s parts
-    from_strings n i x j w v NoStrings q e = let z = never e in elim z [ ]
-    from_strings n i x j w v (StringsOf strings) q e = subst (IsRequest s) (same_request e) (found n i x j strings w v (strings_read s b n.flags j q))
-
-    from_extras : (n : Numbers) (i : ℕ) → IsFixed s n i → (x : Extras) → extras_at s n.flags i ≡ x → after_extras Bad (extras_next s n) x ≡ Of parts → IsRequest s parts
-    unfolding extras_next
-    from_extras n i w NoExtras q e = let z = never e in elim z [ ]
-    from_extras n i w (ExtrasOf x j) q e = from_strings n i x j w (extras_read s b n.flags i q) (strings_at s n.flags j) refl e
-
-    from_fixed : (x : Fixed) → fixed_at s ≡ x → after_fixed Bad (fixed_then s) x ≡ Of parts → IsRequest s parts
-    unfolding fixed_then
-    from_fixed NoFixed q e = let z = never e in elim z [ ]
-    from_fixed (FixedOf n i) q e = from_extras n i (fixed_read s b q) (extras_at s n.flags i) refl e
-
-pub request_read : (s : List ℕ) → IsBytes s → {parts : RequestAt} → request_of s ≡ Of parts → IsRequest s parts
+pub request_read : (s : List ℕ) → IsBytes s → {parts : RequestAt} → request_of s ≡ Some parts → IsRequest s parts
 unfolding request_of
-request_read s b e = from_fixed s b (fixed_at s) refl e
+request_read s b {parts} e =
+    option_and_then_some _ (fixed_at s) parts e (λ n was_n e.
+    option_and_then_some _ (extras_at s n.0.flags n.1) parts e (λ x was_x e.
+    option_and_then_some _ (strings_at s n.0.flags x.1) parts e (λ y was_y e.
+    subst (IsRequest s) (some_same e)
+    (found s b n.0 n.1 x.0 x.1 y (fixed_read s b was_n) (extras_read s b n.0.flags n.1 was_x) (strings_read s b n.0.flags x.1 was_y)))))

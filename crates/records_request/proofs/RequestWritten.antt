@@ -1,13 +1,13 @@
 -- A request within limits that was written reads back, and the answer's parts hold exactly the request's.
 use mathlib.Core.Path.{◌≡◌, refl}
 use mathlib.Core.List.{List, ◌++◌}
-use Prim.Native.Nat.{ℕ, ◌%◌}
+use Prim.Native.Nat.{ℕ}
 use native.Mathlib.Omega.{arith}
+use Rattle.std.specs.Prelude.{Some}
 use Rattle.records.specs.Records.{counted}
 use Rattle.records_request.specs.Requests.{Request, part_if, bare, rate_bytes, flags_of, encode_request, GoodRequest}
-use Rattle.records_request.specs.Reading.{numbers_of, request_with, extras_next, fixed_then, request_of}
+use Rattle.records_request.specs.Reading.{numbers_of, request_with, request_of}
 use Rattle.records_request.specs.declared.RequestAt.{RequestAt}
-use Rattle.records_request.specs.declared.RequestParts.TheVariants.{Of}
 use Rattle.records_request.proofs.Holds.{Holds}
 use Rattle.records_request.proofs.Flags.{flags_written, amnesia_is}
 use Rattle.records_request.proofs.FixedLaws.{Behind, fixed_written}
@@ -17,11 +17,11 @@ use Rattle.records_request.proofs.StringsWritten.{strings_written}
 -- what a reading finds of a request
 pub record Written (s : List ℕ) (x : Request) : Type 0 where
   pub parts : RequestAt
-  pub answer : request_of s ≡ Of parts
+  pub answer : request_of s ≡ Some parts
   pub holds : Holds s x parts
 
 pub request_written : (x : Request) → GoodRequest x → (s : List ℕ) → s ≡ encode_request x → Written s x
-unfolding encode_request request_of fixed_then extras_next
+unfolding encode_request request_of
 request_written x g s e =
     let v = flags_written x in
     let strings = counted 2 x.method ++ (counted 2 x.path ++ (counted 2 x.tenant ++ part_if (counted 2) x.audience)) in
@@ -40,7 +40,7 @@ request_written x g s e =
         now_held = refl;
         size_held = refl;
         skew_held = refl;
-        amnesia_held = amnesia_is x.amnesia (flags_of x % 2) v.amnesia_bit;
+        amnesia_held = amnesia_is x.amnesia (flags_of x) v.amnesia_bit;
         peer_held = b.peer_there;
         digest_held = b.digest_there;
         rate_held = b.rate_there;

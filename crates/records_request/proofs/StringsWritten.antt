@@ -3,40 +3,37 @@ use mathlib.Core.Path.{◌≡◌, sym, ap, ◌∙◌}
 use mathlib.Core.List.{List, [], ◌++◌, append-nil}
 use mathlib.Core.Option.{Option, some, none}
 use Prim.Native.Nat.{ℕ, ◌+◌, ◌-◌, ◌/◌, ◌%◌}
-use native.Mathlib.Nat.{add-zero}
 use native.Mathlib.Omega.{arith}
 use borrow.Author.Tests.{le-ltb}
 use lib.ListN.{length, length-append, length-drop}
+use Rattle.std.specs.Prelude.{Option as Maybe, Some, None}
 use Rattle.basis.specs.Basis.{from_to, between}
-use Rattle.basis.specs.declared.Part.{Part}
-use Rattle.basis.specs.declared.Part.TheVariants.{Absent, At}
+use Rattle.basis.specs.declared.Span.{Span}
 use Rattle.cbor_strings.specs.declared.Class.TheVariants.{Upper, Path, Name, Printable}
 use Rattle.cbor_keys.specs.Maps.{present, IfPresent, GoodText}
 use Rattle.records.specs.Records.{little, counted}
 use Rattle.records.proofs.Littles.{little_length}
 use Rattle.records.proofs.Fields.{text_written}
 use Rattle.records_request.specs.Requests.{part_if}
-use Rattle.records_request.specs.Reading.{audience_at, strings_of, strings_end, tenant_then, path_then, method_next, strings_at}
-use Rattle.records_request.specs.declared.PartStep.TheVariants.{Of as PartOf}
+use Rattle.records_request.specs.Reading.{if_flagged, audience_at, strings_of, strings_at}
 use Rattle.records_request.specs.declared.StringsAt.{StringsAt}
-use Rattle.records_request.specs.declared.Strings.TheVariants.{Of}
 use Rattle.basis.proofs.Held.{PartHeld}
+use Rattle.records_request.proofs.Flags.{not_flagged, flagged}
 use Rattle.records_request.proofs.FixedLaws.{Behind, behind_text}
 
-abbrev pub audience_part : Option (List ℕ) → ℕ → Part
-audience_part none at = Absent
-audience_part (some a) at = At (from_to (at + 2) (at + 2 + length a))
+abbrev pub audience_part : Option (List ℕ) → ℕ → Maybe Span
+audience_part none at = None
+audience_part (some a) at = Some (from_to (at + 2) (at + 2 + length a))
 
 module _ (s t : List ℕ) (flags at : ℕ) where
   audience_written : (o : Option (List ℕ)) → IfPresent (GoodText Printable 1 128) o → flags / 4 % 2 ≡ present o → Behind s (part_if (counted 2) o ++ t) at
-      → (audience_at s flags at ≡ PartOf (audience_part o at) (at + length (part_if (counted 2) o))) × PartHeld s o (audience_part o at)
+      → (if_flagged 4 flags at (audience_at s at) ≡ Some (audience_part o at, at + length (part_if (counted 2) o))) × PartHeld s o (audience_part o at)
   unfolding audience_at counted
-  audience_written none g f w = (rw f (ap (PartOf Absent) (sym (add-zero at))), tt)
+  audience_written none g f w = (not_flagged 2 flags at (audience_at s at) f, tt)
   audience_written (some a) g f w =
-      let l : at + 2 + length a ≡ at + length (counted 2 a) = omega (arith, length-append (little 2 (length a)) a, little_length 2 (length a)) in (
-        rw (f, text_written 2 Printable 1 128 a (omega arith) (omega arith) g s t at w.inside w.there) (ap (PartOf (At (from_to (at + 2) (at + 2 + length a)))) l),
-        (behind_text s a t at w).1,
-      )
+      let l : at + 2 + length a ≡ at + length (counted 2 a) = omega (arith, length-append (little 2 (length a)) a, little_length 2 (length a)) in
+      let n = text_written 2 Printable 1 128 a (omega arith) (omega arith) g s t at w.inside w.there in
+      (flagged 2 flags at f (rw (n, l)), (behind_text s a t at w).1)
 
 module _ (s : List ℕ) (flags at : ℕ) (m p n : List ℕ) (o : Option (List ℕ)) where
   abbrev pub path_place : ℕ
@@ -51,7 +48,7 @@ module _ (s : List ℕ) (flags at : ℕ) (m p n : List ℕ) (o : Option (List �
   -- what was found of the four
   pub record StringsWritten : Type 0 where
     pub strings : StringsAt
-    pub answer : strings_at s flags at ≡ Of strings
+    pub answer : strings_at s flags at ≡ Some strings
     pub method_there : between s strings.method ≡ m
     pub path_there : between s strings.path ≡ p
     pub tenant_there : between s strings.tenant ≡ n
@@ -59,7 +56,7 @@ module _ (s : List ℕ) (flags at : ℕ) (m p n : List ℕ) (o : Option (List �
 
   pub strings_written : GoodText Upper 1 16 m → GoodText Path 1 1024 p → GoodText Name 1 64 n → IfPresent (GoodText Printable 1 128) o → flags / 4 % 2 ≡ present o
       → Behind s (counted 2 m ++ (counted 2 p ++ (counted 2 n ++ part_if (counted 2) o))) at → StringsWritten
-  unfolding strings_at method_next path_then tenant_then strings_end
+  unfolding strings_at
   strings_written gm gp gn go f w =
       let t3 = part_if (counted 2) o in
       let t2 = counted 2 n ++ t3 in

@@ -39,6 +39,9 @@ unfoldable pub rate_bytes : PerSecond → List ℕ
 rate_bytes r = little 4 r.per_s ++ little 4 r.burst
 
 -- 01: "flags (1: bit 0 amnesia, 1 IPv4 peer, 2 audience, 3 digest, 4 rate; others zero)", each as the number it adds
+abbrev pub amnesia_flag : ℕ
+amnesia_flag = 1
+
 abbrev pub peer_flag : ℕ
 peer_flag = 2
 
@@ -57,7 +60,7 @@ flags_most = 31
 
 unfoldable pub flags_of : Request → ℕ
 flags_of x =
-    pick x.amnesia 1 0 + present x.peer * peer_flag + present x.audience * audience_flag + present x.digest * digest_flag + present x.rate * rate_flag
+    pick x.amnesia amnesia_flag 0 + present x.peer * peer_flag + present x.audience * audience_flag + present x.digest * digest_flag + present x.rate * rate_flag
 
 -- 01: "then, if flagged, peer (4, the address bytes in written order), digest (64 lowercase hex digits), per_s and burst (4 each); then
 -- method .., path .., tenant .. and, if flagged, audience .., each after a two-byte length. Nothing follows. Numbers are little-endian."

@@ -1,12 +1,13 @@
 // Request bodies. The reader takes a slice of any length; there is one defect, for ctx.bad has no place.
 #![tactic(auto)]
 
-ghost use Rattle.std.specs.Prelude.{◌≡◌};
-ghost use Rattle.records_request.specs.Reading.{fixed_at, peer_at, digest_at, rate_at, extras_at, audience_at, strings_at, request_with, fixed_then, request_of};
+ghost use Rattle.std.specs.Prelude.{◌≡◌, Option};
+ghost use Rattle.records_request.specs.Reading.{fixed_at, peer_at, digest_at, rate_at, audience_at};
+ghost use Rattle.records_request.specs.Reading.{extras_at, strings_at, request_of};
+ghost use Rattle.records_request.specs.Inner.{IfFlagged};
 
-use basis::{Part, Span, limits};
+use basis::{Span, limits};
 use cbor_strings::Class;
-use records::{Number, Run};
 
 pub mod flag;
 
@@ -19,42 +20,17 @@ pub struct Numbers {
     pub flags: u64,
 }
 
-#[derive(Clone, Copy)]
-pub enum Fixed {
-    Of { numbers: Numbers, next: usize },
-    Bad,
-}
-
-// A part that stands there if it is flagged, and where the next one begins.
-#[derive(Clone, Copy)]
-pub enum PartStep {
-    Of { part: Part, next: usize },
-    Bad,
-}
-
-#[derive(Clone, Copy)]
-pub enum RateAt {
-    Absent,
-    Of { per_s: u64, burst: u64 },
-}
-
-#[derive(Clone, Copy)]
-pub enum RateStep {
-    Of { rate: RateAt, next: usize },
-    Bad,
+#[derive(Clone, Copy, Debug, PartialEq, Eq)]
+pub struct Rate {
+    pub per_s: u64,
+    pub burst: u64,
 }
 
 #[derive(Clone, Copy)]
 pub struct ExtrasAt {
-    pub peer: Part,
-    pub digest: Part,
-    pub rate: RateAt,
-}
-
-#[derive(Clone, Copy)]
-pub enum Extras {
-    Of { extras: ExtrasAt, next: usize },
-    Bad,
+    pub peer: Option<Span>,
+    pub digest: Option<Span>,
+    pub rate: Option<Rate>,
 }
 
 #[derive(Clone, Copy)]
@@ -62,13 +38,7 @@ pub struct StringsAt {
     pub method: Span,
     pub path: Span,
     pub tenant: Span,
-    pub audience: Part,
-}
-
-#[derive(Clone, Copy)]
-pub enum Strings {
-    Of { strings: StringsAt },
-    Bad,
+    pub audience: Option<Span>,
 }
 
 // What a request holds: its numbers, and where its strings lie in its body.
@@ -78,256 +48,135 @@ pub struct RequestAt {
     pub size: u64,
     pub skew: u64,
     pub amnesia: bool,
-    pub peer: Part,
-    pub digest: Part,
-    pub rate: RateAt,
+    pub peer: Option<Span>,
+    pub digest: Option<Span>,
+    pub rate: Option<Rate>,
     pub method: Span,
     pub path: Span,
     pub tenant: Span,
-    pub audience: Part,
+    pub audience: Option<Span>,
 }
 
-#[derive(Clone, Copy)]
-pub enum RequestParts {
-    Of { request: RequestAt },
-    Bad,
-}
-
-fn fixed_at(s: &[u8]) -> Fixed
+#[tactic(auto, unfolding(crate::specs::Reading::fixed_at))]
+fn fixed_at(s: &[u8]) -> Option<(Numbers, usize)>
     ensures { result ≡ fixed_at s.now }
 {
-    match records::little_at(s, 0, 8) {
-        Number::Bad => Fixed::Bad,
-        Number::Of { n: now, next: p } => match records::little_at(s, p, 8) {
-            Number::Bad => Fixed::Bad,
-            Number::Of { n: size, next: q } => match records::little_at(s, q, 2) {
-                Number::Bad => Fixed::Bad,
-                Number::Of { n: skew, next: r } => match records::little_at(s, r, 1) {
-                    Number::Bad => Fixed::Bad,
-                    Number::Of { n: flags, next } => {
-                        if limits::SKEW_MOST < skew {
-                            return Fixed::Bad;
-                        }
-                        if flag::MOST < flags {
-                            return Fixed::Bad;
-                        }
-                        Fixed::Of {
-                            numbers: Numbers {
-                                now,
-                                size,
-                                skew,
-                                flags,
-                            },
-                            next,
-                        }
-                    }
-                },
-            },
-        },
+    let (now, p) = records::little_at(s, 0, 8)?;
+    let (size, q) = records::little_at(s, p, 8)?;
+    let (skew, r) = records::little_at(s, q, 2)?;
+    let (flags, next) = records::little_at(s, r, 1)?;
+    if limits::SKEW_MOST < skew || flag::MOST < flags {
+        return None;
     }
+    let numbers = Numbers {
+        now,
+        size,
+        skew,
+        flags,
+    };
+    Some((numbers, next))
 }
 
-fn peer_at(s: &[u8], flags: u64, at: usize) -> PartStep
-    ensures { result ≡ peer_at s.now flags at }
+// A part that stands at a place if its flag is set, and where the next one begins.
+fn if_flagged<T, F>(flags: u64, flag: u64, at: usize, read: F) -> Option<(Option<T>, usize)>
+where
+    F: FnOnce() -> Option<(T, usize)>,
+    requires { F.IsAlwaysCallable read }
+    ensures { IfFlagged (F.post read) flag flags at result }
 {
-    if flags / flag::PEER % 2 == 0 {
-        return PartStep::Of {
-            part: Part::Absent,
-            next: at,
-        };
+    if flags & flag == 0 {
+        return Some((None, at));
     }
-    match records::run_at(s, at, 4) {
-        Run::Bad => PartStep::Bad,
-        Run::Of { span } => PartStep::Of {
-            part: Part::At { span },
-            next: span.to,
-        },
-    }
+    let (part, next) = read()?;
+    Some((Some(part), next))
 }
 
-fn digest_at(s: &[u8], flags: u64, at: usize) -> PartStep
-    ensures { result ≡ digest_at s.now flags at }
+// The bytes of an address.
+#[tactic(auto, unfolding(crate::specs::Reading::peer_at))]
+fn peer_at(s: &[u8], at: usize) -> Option<(Span, usize)>
+    ensures { result ≡ peer_at s.now at }
 {
-    if flags / flag::DIGEST % 2 == 0 {
-        return PartStep::Of {
-            part: Part::Absent,
-            next: at,
-        };
-    }
-    match records::run_at(s, at, limits::DIGEST_LENGTH) {
-        Run::Bad => PartStep::Bad,
-        Run::Of { span } => {
-            let from = span.from;
-            let to = span.to;
-            if cbor_strings::content_is(&s[from..to], Class::Hex) {
-                return PartStep::Of {
-                    part: Part::At { span },
-                    next: to,
-                };
-            }
-            PartStep::Bad
-        }
-    }
+    let peer = records::run_at(s, at, 4)?;
+    Some((peer, peer.to))
 }
 
-fn rate_at(s: &[u8], flags: u64, at: usize) -> RateStep
-    ensures { result ≡ rate_at s.now flags at }
+#[tactic(auto, unfolding(crate::specs::Reading::digest_at))]
+fn digest_at(s: &[u8], at: usize) -> Option<(Span, usize)>
+    ensures { result ≡ digest_at s.now at }
 {
-    if flags / flag::RATE % 2 == 0 {
-        return RateStep::Of {
-            rate: RateAt::Absent,
-            next: at,
-        };
+    let digest = records::run_at(s, at, limits::DIGEST_LENGTH)?;
+    if cbor_strings::content_is(basis::lend(s, digest), Class::Hex) {
+        return Some((digest, digest.to));
     }
-    match records::little_at(s, at, 4) {
-        Number::Bad => RateStep::Bad,
-        Number::Of { n: per_s, next: p } => match records::little_at(s, p, 4) {
-            Number::Bad => RateStep::Bad,
-            Number::Of { n: burst, next } => RateStep::Of {
-                rate: RateAt::Of { per_s, burst },
-                next,
-            },
-        },
-    }
+    None
 }
 
-fn extras_at(s: &[u8], flags: u64, at: usize) -> Extras
+#[tactic(auto, unfolding(crate::specs::Reading::rate_at))]
+fn rate_at(s: &[u8], at: usize) -> Option<(Rate, usize)>
+    ensures { result ≡ rate_at s.now at }
+{
+    let (per_s, p) = records::little_at(s, at, 4)?;
+    let (burst, next) = records::little_at(s, p, 4)?;
+    Some((Rate { per_s, burst }, next))
+}
+
+#[tactic(auto, unfolding(crate::specs::Reading::audience_at))]
+fn audience_at(s: &[u8], at: usize) -> Option<(Span, usize)>
+    ensures { result ≡ audience_at s.now at }
+{
+    let audience = records::text_at(s, at, 2, Class::Printable, 1, limits::AUD_MOST)?;
+    Some((audience, audience.to))
+}
+
+#[tactic(auto, unfolding(crate::specs::Reading::extras_at))]
+fn extras_at(s: &[u8], flags: u64, at: usize) -> Option<(ExtrasAt, usize)>
     ensures { result ≡ extras_at s.now flags at }
 {
-    match peer_at(s, flags, at) {
-        PartStep::Bad => Extras::Bad,
-        PartStep::Of {
-            part: peer,
-            next: p,
-        } => match digest_at(s, flags, p) {
-            PartStep::Bad => Extras::Bad,
-            PartStep::Of {
-                part: digest,
-                next: q,
-            } => match rate_at(s, flags, q) {
-                RateStep::Bad => Extras::Bad,
-                RateStep::Of { rate, next } => Extras::Of {
-                    extras: ExtrasAt { peer, digest, rate },
-                    next,
-                },
-            },
-        },
-    }
-}
-
-fn audience_at(s: &[u8], flags: u64, at: usize) -> PartStep
-    ensures { result ≡ audience_at s.now flags at }
-{
-    if flags / flag::AUDIENCE % 2 == 0 {
-        return PartStep::Of {
-            part: Part::Absent,
-            next: at,
-        };
-    }
-    match records::text_at(s, at, 2, Class::Printable, 1, limits::AUD_MOST) {
-        Run::Bad => PartStep::Bad,
-        Run::Of { span } => PartStep::Of {
-            part: Part::At { span },
-            next: span.to,
-        },
-    }
+    let (peer, p) = if_flagged(flags, flag::PEER, at, || peer_at(s, at))?;
+    let (digest, q) = if_flagged(flags, flag::DIGEST, p, || digest_at(s, p))?;
+    let (rate, next) = if_flagged(flags, flag::RATE, q, || rate_at(s, q))?;
+    Some((ExtrasAt { peer, digest, rate }, next))
 }
 
 // The strings, behind which nothing follows.
-fn strings_at(s: &[u8], flags: u64, at: usize) -> Strings
+#[tactic(auto, unfolding(crate::specs::Reading::strings_at))]
+fn strings_at(s: &[u8], flags: u64, at: usize) -> Option<StringsAt>
     ensures { result ≡ strings_at s.now flags at }
 {
-    match records::text_at(s, at, 2, Class::Upper, 1, limits::METHOD_MOST) {
-        Run::Bad => Strings::Bad,
-        Run::Of { span: method } => match records::text_at(
-            s,
-            method.to,
-            2,
-            Class::Path,
-            1,
-            limits::REQUEST_PATH_MOST,
-        ) {
-            Run::Bad => Strings::Bad,
-            Run::Of { span: path } => match records::text_at(
-                s,
-                path.to,
-                2,
-                Class::Name,
-                1,
-                limits::NAME_MOST,
-            ) {
-                Run::Bad => Strings::Bad,
-                Run::Of { span: tenant } => match audience_at(s, flags, tenant.to) {
-                    PartStep::Bad => Strings::Bad,
-                    PartStep::Of {
-                        part: audience,
-                        next,
-                    } => {
-                        if next < s.len() {
-                            return Strings::Bad;
-                        }
-                        Strings::Of {
-                            strings: StringsAt {
-                                method,
-                                path,
-                                tenant,
-                                audience,
-                            },
-                        }
-                    }
-                },
-            },
-        },
+    let method = records::text_at(s, at, 2, Class::Upper, 1, limits::METHOD_MOST)?;
+    let path = records::text_at(s, method.to, 2, Class::Path, 1, limits::REQUEST_PATH_MOST)?;
+    let tenant = records::text_at(s, path.to, 2, Class::Name, 1, limits::NAME_MOST)?;
+    let p = tenant.to;
+    let (audience, next) = if_flagged(flags, flag::AUDIENCE, p, || audience_at(s, p))?;
+    if next < s.len() {
+        return None;
     }
-}
-
-// Bit 0 of the flags is amnesia.
-fn all_of(numbers: Numbers, extras: ExtrasAt, strings: StringsAt) -> RequestAt
-    ensures { result ≡ request_with numbers extras strings }
-{
-    let peer = extras.peer;
-    let digest = extras.digest;
-    let rate = extras.rate;
-    let method = strings.method;
-    let path = strings.path;
-    let tenant = strings.tenant;
-    let audience = strings.audience;
-    RequestAt {
-        now: numbers.now,
-        size: numbers.size,
-        skew: numbers.skew,
-        amnesia: numbers.flags % 2 == 1,
-        peer,
-        digest,
-        rate,
+    Some(StringsAt {
         method,
         path,
         tenant,
         audience,
-    }
+    })
 }
 
-// Where the numbers are known, and the other parts begin at `at`.
-fn behind_fixed(s: &[u8], numbers: Numbers, at: usize) -> RequestParts
-    ensures { result ≡ fixed_then s.now numbers at }
-{
-    match extras_at(s, numbers.flags, at) {
-        Extras::Bad => RequestParts::Bad,
-        Extras::Of { extras, next } => match strings_at(s, numbers.flags, next) {
-            Strings::Bad => RequestParts::Bad,
-            Strings::Of { strings } => {
-                let request = all_of(numbers, extras, strings);
-                RequestParts::Of { request }
-            }
-        },
-    }
-}
-
-pub fn read_request(s: &[u8]) -> RequestParts
+#[tactic(auto, unfolding(crate::specs::Reading::request_of))]
+pub fn read_request(s: &[u8]) -> Option<RequestAt>
     ensures { result ≡ request_of s.now }
 {
-    match fixed_at(s) {
-        Fixed::Bad => RequestParts::Bad,
-        Fixed::Of { numbers, next } => behind_fixed(s, numbers, next),
-    }
+    let (numbers, p) = fixed_at(s)?;
+    let (extras, q) = extras_at(s, numbers.flags, p)?;
+    let strings = strings_at(s, numbers.flags, q)?;
+    Some(RequestAt {
+        now: numbers.now,
+        size: numbers.size,
+        skew: numbers.skew,
+        amnesia: numbers.flags & flag::AMNESIA != 0,
+        peer: extras.peer,
+        digest: extras.digest,
+        rate: extras.rate,
+        method: strings.method,
+        path: strings.path,
+        tenant: strings.tenant,
+        audience: strings.audience,
+    })
 }

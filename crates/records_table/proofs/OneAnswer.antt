@@ -5,11 +5,7 @@ use mathlib.Core.List.{List}
 use Rattle.basis.proofs.OneAnswer.{told, lent}
 use Prim.Native.Nat.{ℕ}
 use Rattle.basis.specs.Basis.{behind}
-use Rattle.records_table.specs.Order.{before_of}
 use Rattle.records_table.specs.Reading.{table_ok, find_from, place_from, lookup_of, lookup_place}
-
-pub before_one_answer : (x y : List ℕ) {r s : Bool} → r ≡ before_of x y → s ≡ before_of x y → r ≡ s
-before_one_answer x y p q = told p q
 
 pub table_ok_one_answer : (table : List ℕ) {r s : Bool} → r ≡ table_ok table → s ≡ table_ok table → r ≡ s
 table_ok_one_answer table p q = told p q

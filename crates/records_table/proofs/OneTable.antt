@@ -1,6 +1,6 @@
 -- One table for one encoding, and in a good table one row for one pair of ids.
 use mathlib.Core.Path.{◌≡◌, refl, sym, ap, ap₂, subst, ◌∙◌}
-use mathlib.Core.Bool.{Bool, true, false}
+use mathlib.Core.Bool.{Bool, true, false, ◌&&◌, ◌||◌}
 use mathlib.Core.List.{List, [], ◌∷◌, ◌++◌}
 use mathlib.Core.Logic.{◌⊎◌, inl, inr}
 use Prim.Native.Nat.{ℕ, zero, suc, ◌<◌}
@@ -10,13 +10,13 @@ use lib.Dec.{ltb}
 use lib.ListN.{length, get_or}
 use Rattle.basis.specs.Basis.{pick, between}
 use Rattle.basis.specs.Same.{same_of}
+use Rattle.basis.proofs.Pairs.{some_same}
 use Rattle.basis.proofs.Parts.{one_rest}
 use Rattle.basis.proofs.Sameness.{same_equal, equal_same}
 use Rattle.records.specs.Records.{little, record_bytes}
 use Rattle.records_table.specs.Order.{before_of, ascends}
 use Rattle.records_table.specs.Tables.{Row, encode_row, encode_table, GoodRow, GoodFrom, GoodTable}
 use Rattle.records_table.specs.declared.RowAt.{RowAt}
-use Rattle.records_table.specs.declared.RowParts.TheVariants.{Of}
 use Rattle.records_table.proofs.Rows.{row_written}
 
 row_one : (r q : Row) → GoodRow r → GoodRow q → (t u : List ℕ) → encode_row r ++ t ≡ encode_row q ++ u → (r ≡ q) × (t ≡ u)
@@ -24,16 +24,13 @@ row_one r q gr gq t u e =
     let s = encode_row r ++ t in
     let x = row_written r gr s t 0 (omega arith) refl in
     let y = row_written q gq s u 0 (omega arith) e in
-    let p = same_row (sym x.answer ∙ y.answer) in
+    let p = some_same (sym x.answer ∙ y.answer) in
     let tid = sym x.tid_held ∙ ap (λ (r : RowAt). between s r.tid) p ∙ y.tid_held in
     let kid = sym x.kid_held ∙ ap (λ (r : RowAt). between s r.kid) p ∙ y.kid_held in
     let key = sym x.key_held ∙ ap (λ (r : RowAt). between s r.key) p ∙ y.key_held in
     let o = build tid kid key in
     (o, one_rest (encode_row r) (encode_row q) t u (ap encode_row o) e)
   where
-    same_row : {a b : RowAt} → Of a ≡ Of b → a ≡ b
-    same_row q = cc
-
     build : {a b c d e f : List ℕ} → a ≡ d → b ≡ e → c ≡ f → ◌≡◌ {A = Row} (record { tid = a; kid = b; key = c }) (record { tid = d; kid = e; key = f })
     build p q r = rw (p, q, r)
 
@@ -66,7 +63,7 @@ split a b x y e = by (ltb a b) refl (ltb b a) refl e
   where
     by : (u : Bool) → ltb a b ≡ u → (v : Bool) → ltb b a ≡ v → pick u true (pick v false (before_of x y)) ≡ true → (a < b) ⊎ ((a ≡ b) × (before_of x y ≡ true))
     by true p v q e = inl (ltb-true a b p)
-    by false p true q e = let z : ◌≡◌ {A = ℕ} 0 1 = ap (λ (b : Bool). pick b 1 0) e in let z : ⊥ = omega arith in elim z [ ]
+    by false p true q e = cc
     by false p false q e = inr (omega (arith, ltb-false a b p, ltb-false b a q), e)
 
 first : (a b : ℕ) (x y : List ℕ) → a < b → before_of (a ∷ x) (b ∷ y) ≡ true
@@ -82,7 +79,7 @@ unfolding before_of
 before_trans [] [] [] p q = p
 before_trans [] (b ∷ y) [] p q = q
 before_trans [] y (c ∷ z) p q = refl
-before_trans (a ∷ x) [] z p q = let w : ◌≡◌ {A = ℕ} 0 1 = ap (λ (b : Bool). pick b 1 0) p in let w : ⊥ = omega arith in elim w [ ]
+before_trans (a ∷ x) [] z p q = cc
 before_trans (a ∷ x) (b ∷ y) [] p q = q
 before_trans (a ∷ x) (b ∷ y) (c ∷ z) p q = by (split a b x y p) (split b c y z q) (before_trans x y z)
   where
@@ -98,10 +95,10 @@ row_split : (t k u l : List ℕ) → ascends t k u l ≡ true → (before_of t u
 unfolding ascends
 row_split t k u l e = by (before_of t u) refl (same_of t u) refl e
   where
-    by : (a : Bool) → before_of t u ≡ a → (b : Bool) → same_of t u ≡ b → pick a true (pick b (before_of k l) false) ≡ true → (before_of t u ≡ true) ⊎ ((t ≡ u) × (before_of k l ≡ true))
+    by : (a : Bool) → before_of t u ≡ a → (b : Bool) → same_of t u ≡ b → (a || (b && before_of k l)) ≡ true → (before_of t u ≡ true) ⊎ ((t ≡ u) × (before_of k l ≡ true))
     by true p b q e = inl p
     by false p true q e = inr (same_equal t u q, e)
-    by false p false q e = let w : ◌≡◌ {A = ℕ} 0 1 = ap (λ (b : Bool). pick b 1 0) e in let w : ⊥ = omega arith in elim w [ ]
+    by false p false q e = cc
 
 tids_first : (t k u l : List ℕ) → before_of t u ≡ true → ascends t k u l ≡ true
 unfolding ascends
@@ -124,8 +121,7 @@ row_not_self : (t k : List ℕ) → ascends t k t k ≡ true → ⊥
 unfolding ascends
 row_not_self t k e =
     let f : ascends t k t k ≡ false = rw (before_not_self t, equal_same t t refl) (before_not_self k) in
-    let w : ◌≡◌ {A = ℕ} 0 1 = ap (λ (b : Bool). pick b 1 0) (sym f ∙ e) in
-    omega arith
+    cc
 
 -- every row stands behind the one before all of them
 all_behind : (rs : List Row) (t k : List ℕ) → GoodFrom t k rs → (d : Row) (i : ℕ) → i < length rs → ascends t k (get_or rs i d).tid (get_or rs i d).kid ≡ true

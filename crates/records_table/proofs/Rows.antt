@@ -7,21 +7,29 @@ use borrow.Author.Tests.{ltb-false, eqb-true, le-ltb, eq-eqb}
 use lib.Dec.{eqb, ltb}
 use lib.ListN.{length, drop, length-append, length-drop, take-append-drop}
 use lib.Seq.{drop-drop, length-take-le}
-use Rattle.basis.specs.Basis.{pick, from_to, between, IsBytes}
+use Rattle.std.specs.Prelude.{Some}
+use Rattle.std.proofs.lemmas.Option.{option_and_then_some}
+use Rattle.basis.specs.Basis.{from_to, between, IsBytes}
 use Rattle.basis.specs.declared.Span.{Span}
 use Rattle.records.specs.declared.RecordAt.{RecordAt}
+use Rattle.basis.proofs.Pairs.{some_same}
 use Rattle.basis.proofs.Parts.{past, lies, on, one_front}
 use Rattle.cbor_strings.specs.declared.Class.TheVariants.{Name}
-use Rattle.cbor_keys.proofs.StepLaws.{must_take, must_pass}
 use Rattle.records.specs.Records.{counted, record_bytes}
 use Rattle.records.specs.Reading.{text_at, read_record}
+use Rattle.records.proofs.Ways.{taken, passed}
 use Rattle.records.proofs.Runs.{ends_inside}
-use Rattle.records.proofs.Fields.{run_went, record_went, counted_length, text_written, text_behind, text_inside, text_lies, IsText, text_read, record_written, record_body_lem, IsRecord, record_read}
+use Rattle.records.proofs.Fields.{counted_length, text_written, text_behind, text_inside, text_lies, IsText, text_read, record_written, record_body_lem, IsRecord, record_read}
 use Rattle.records_table.specs.Tables.{Row, encode_row, GoodRow}
-use Rattle.records_table.specs.Reading.{row_with, row_kid, row_tid, row_body, row_then, read_row}
-use Rattle.records_table.specs.Inner.{IdsInside}
+use Rattle.records_table.specs.Reading.{row_with, read_row}
 use Rattle.records_table.specs.declared.RowAt.{RowAt}
-use Rattle.records_table.specs.declared.RowParts.TheVariants.{Of, Bad}
+
+-- ids that lie inside the table
+pub record IdsInside (s : List ℕ) (row : RowAt) : Type 0 where
+  pub tid_order : row.tid.from ≤ row.tid.to
+  pub tid_inside : row.tid.to ≤ length s
+  pub kid_order : row.kid.from ≤ row.kid.to
+  pub kid_inside : row.kid.to ≤ length s
 
 -- a good row stands at `at` and ends where its key does
 pub record IsRow (s : List ℕ) (at : ℕ) (row : RowAt) : Type 0 where
@@ -63,33 +71,23 @@ module _ (s : List ℕ) (b : IsBytes s) (at : ℕ) where
         there = rw one at r.there ∙ ap (λ (t : List ℕ). record_bytes 1 t ++ drop to s) q;
       }
 
-  module _ {row : RowAt} where
-    never : Bad ≡ Of row → ⊥
-    never e = let z : ◌≡◌ {A = ℕ} 0 1 = cc in omega arith
-
-    same_row : {a : RowAt} → Of a ≡ Of row → a ≡ row
-    same_row e = cc
-
-    pub row_read : read_row s at ≡ Of row → IsRow s at row
-    unfolding read_row row_then row_body row_tid row_kid
-    row_read e =
-        let r = record_went never (row_then s) (read_record s at) e in
-        let body = r.found.body in
-        let k = must_take (row_body s body) Bad never (eqb r.found.kind 1) r.goes in
-        let x = run_went never (row_tid s body.to) (text_at s 1 Name 1 64 body.from) k.1 in
-        let y = run_went never (row_kid body.to x.part) (text_at s 1 Name 1 64 x.part.to) x.goes in
-        let l = y.part.to in
-        let whole = Of (row_with x.part y.part (from_to l body.to)) in
-        let p = must_pass Bad (pick (eqb (body.to - l) 32) whole Bad) never (ltb body.to l) y.goes in
-        let q = must_take whole Bad never (eqb (body.to - l) 32) p.1 in
-        subst (IsRow s at) (same_row q.1)
-        (joined r.found x.part y.part (eqb-true r.found.kind 1 k.0) (record_read s b at r.was) (text_read 1 Name 1 64 s b body.from x.was)
-        (text_read 1 Name 1 64 s b x.part.to y.was) (ltb-false body.to l p.0) (eqb-true (body.to - l) 32 q.0))
+  pub row_read : {row : RowAt} → read_row s at ≡ Some row → IsRow s at row
+  unfolding read_row
+  row_read {row} e =
+      option_and_then_some _ (read_record s at) row e (λ r was goes.
+      let k = taken (eqb r.kind 1) goes in
+      option_and_then_some _ (text_at s 1 Name 1 64 r.body.from) row k.1 (λ tid was_tid goes.
+      option_and_then_some _ (text_at s 1 Name 1 64 tid.to) row goes (λ kid was_kid goes.
+      let p = passed (ltb r.body.to kid.to) goes in
+      let q = taken (eqb (r.body.to - kid.to) 32) p.1 in
+      subst (IsRow s at) (some_same q.1)
+      (joined r tid kid (eqb-true r.kind 1 k.0) (record_read s b at was) (text_read 1 Name 1 64 s b r.body.from was_tid) (text_read 1 Name 1 64 s b tid.to was_kid)
+      (ltb-false r.body.to kid.to p.0) (eqb-true (r.body.to - kid.to) 32 q.0)))))
 
 -- what a reading finds of a good row that stands at `at`, with t behind it
 pub record Written (s : List ℕ) (r : Row) (t : List ℕ) (at : ℕ) : Type 0 where
   pub row : RowAt
-  pub answer : read_row s at ≡ Of row
+  pub answer : read_row s at ≡ Some row
   pub tid_held : between s row.tid ≡ r.tid
   pub kid_held : between s row.kid ≡ r.kid
   pub key_held : between s row.key ≡ r.key
@@ -97,7 +95,7 @@ pub record Written (s : List ℕ) (r : Row) (t : List ℕ) (at : ℕ) : Type 0 w
   pub behind : drop row.key.to s ≡ t
 
 pub row_written : (r : Row) → GoodRow r → (s t : List ℕ) (at : ℕ) → at ≤ length s → drop at s ≡ encode_row r ++ t → Written s r t at
-unfolding encode_row read_row row_then row_body row_tid row_kid
+unfolding encode_row read_row
 row_written r g s t at i e =
     let x = counted 1 r.tid in
     let y = counted 1 r.kid in

@@ -7,17 +7,19 @@ use native.Mathlib.Omega.{arith}
 use borrow.Author.Tests.{eqb-true, eq-eqb, ne_eqb, le-ltb, lt-ltb}
 use lib.Dec.{eqb}
 use lib.ListN.{length, drop, length-drop, drop_of_length-le}
+use Rattle.std.specs.Prelude.{Option, Some, None}
+use Rattle.std.specs.Option.{option_map_or}
+use Rattle.basis.specs.declared.Span.{Span}
 use Rattle.basis.specs.Basis.{pick, between, IsBytes}
 use Rattle.basis.proofs.Parts.{on}
 use Rattle.records.specs.Records.{little, record_bytes}
 use Rattle.records.specs.Reading.{run_at, little_at, read_record}
 use Rattle.records_table.specs.Order.{same_ids}
 use Rattle.records_table.specs.Tables.{Row, encode_row, encode_table, GoodFrom, GoodTable, has_row, key_in}
-use Rattle.records_table.specs.Reading.{read_row, after_row, ordered_then, row_after, ok_then, ok_from, table_ok, found_then, found_from, find_from, lookup_of}
-use Rattle.records_table.specs.declared.RowParts.{RowParts}
-use Rattle.records_table.specs.declared.RowParts.TheVariants.{Of, Bad}
+use Rattle.records_table.specs.Reading.{read_row, row_after, ok_from, table_ok, key_from, find_from, lookup_of}
+use Rattle.records_table.specs.declared.RowAt.{RowAt}
 use Rattle.records_table.proofs.Rows.{row_written, row_read}
-use Rattle.records_table.proofs.Walks.{ordered}
+use Rattle.records_table.proofs.Walks.{ended, ordered}
 
 -- nothing is left only at the end
 at_end : (s : List ℕ) (at : ℕ) → at ≤ length s → drop at s ≡ [] → at ≡ length s
@@ -30,13 +32,8 @@ not_end s at r t e z =
     let l = sym (length-drop at s) ∙ ap length e in
     omega (arith, l)
 
-ended : (n : ℕ) (s t k : List ℕ) (at : ℕ) → at ≡ length s → ok_from n s t k at ≡ true
-unfolding ok_from
-ended zero s t k at z = eq-eqb at (length s) z
-ended (suc n) s t k at z = rw (eq-eqb at (length s) z)
-
 ok_written : (rs : List Row) (n : ℕ) → length rs ≤ n → (t k : List ℕ) → GoodFrom t k rs → (s : List ℕ) (at : ℕ) → at ≤ length s → drop at s ≡ encode_table rs → ok_from n s t k at ≡ true
-unfolding GoodFrom encode_table ok_from row_after ordered_then
+unfolding GoodFrom encode_table ok_from row_after
 ok_written [] n l t k g s at i e = ended n s t k at (at_end s at i e)
 ok_written (r ∷ rs) zero l t k g s at i e = let z : ⊥ = omega arith in elim z [ ]
 ok_written (r ∷ rs) (suc n) l t k g s at i e =
@@ -64,10 +61,10 @@ unfolding ok_from GoodFrom encode_table
 ok_read s b zero t k at e = none_left 0 s t k at (eqb-true at (length s) e)
 ok_read s b (suc n) t k at e = by (eqb at (length s)) refl e (ok_read s b n)
   where
-    went : (r : RowParts) → row_after s t k at ≡ r → after_row false (ok_then (ok_from n s) s) r ≡ true → ((t k : List ℕ) (at : ℕ) → ok_from n s t k at ≡ true → AreRows n s t k at)
-        → AreRows (suc n) s t k at
-    went Bad p e m = let z : ◌≡◌ {A = ℕ} 0 1 = ap (λ (b : Bool). pick b 1 0) e in let z : ⊥ = omega arith in elim z [ ]
-    went (Of row) p e m =
+    went : (r : Option RowAt) → row_after s t k at ≡ r → option_map_or (λ row. ok_from n s (between s row.tid) (between s row.kid) row.key.to) r false ≡ true
+        → ((t k : List ℕ) (at : ℕ) → ok_from n s t k at ≡ true → AreRows n s t k at) → AreRows (suc n) s t k at
+    went None p e m = cc
+    went (Some row) p e m =
         let o = ordered s t k at p in
         let r = row_read s b at o.0 in
         let v = m (between s row.tid) (between s row.kid) row.key.to e in
@@ -78,7 +75,8 @@ ok_read s b (suc n) t k at e = by (eqb at (length s)) refl e (ok_read s b n)
           there = on (encode_row r.tree) r.there v.there;
         }
 
-    by : (u : Bool) → eqb at (length s) ≡ u → pick u true (after_row false (ok_then (ok_from n s) s) (row_after s t k at)) ≡ true
+    by : (u : Bool) → eqb at (length s) ≡ u
+        → pick u true (option_map_or (λ row. ok_from n s (between s row.tid) (between s row.kid) row.key.to) (row_after s t k at) false) ≡ true
         → ((t k : List ℕ) (at : ℕ) → ok_from n s t k at ≡ true → AreRows n s t k at) → AreRows (suc n) s t k at
     by true p e m = none_left (suc n) s t k at (eqb-true at (length s) p)
     by false p e m = went (row_after s t k at) refl e m
@@ -94,20 +92,25 @@ unfolding table_ok
 table_read s b e = let r = ok_read s b 64 [] [] 0 e in record { rows = r.rows; good = record { few = r.few; rows = r.good }; whole = r.there }
 
 -- no row begins at the end
-no_row : (s : List ℕ) (at : ℕ) → at ≡ length s → read_row s at ≡ Bad
+no_row : (s : List ℕ) (at : ℕ) → at ≡ length s → read_row s at ≡ None
 unfolding read_row read_record little_at run_at
 no_row s at z = rw (le-ltb (length s) at (omega arith), lt-ltb (length s - at) 2 (omega arith))
 
+key_or_rest : (s : List ℕ) (key : Span) (rest : Option Span) {k m : List ℕ} → between s key ≡ k → option_map_or (between s) rest [] ≡ m → (b : Bool)
+    → option_map_or (between s) (pick b (Some key) rest) [] ≡ pick b k m
+key_or_rest s key rest e f true = e
+key_or_rest s key rest e f false = f
+
 find_written : (rs : List Row) (n : ℕ) → length rs ≤ n → (t k : List ℕ) → GoodFrom t k rs → (s tid kid : List ℕ) (at : ℕ) → at ≤ length s → drop at s ≡ encode_table rs
     → find_from n s tid kid at ≡ key_in rs tid kid
-unfolding GoodFrom encode_table find_from found_from found_then key_in
+unfolding GoodFrom encode_table find_from key_from key_in
 find_written [] zero l t k g s tid kid at i e = refl
 find_written [] (suc n) l t k g s tid kid at i e = rw (no_row s at (at_end s at i e))
 find_written (r ∷ rs) zero l t k g s tid kid at i e = let z : ⊥ = omega arith in elim z [ ]
 find_written (r ∷ rs) (suc n) l t k g s tid kid at i e =
     let w = row_written r g.0 s (encode_table rs) at i e in
     let m = find_written rs n (omega arith) r.tid r.kid g.2 s tid kid w.row.key.to w.inside w.behind in
-    rw (w.answer, w.tid_held, w.kid_held, w.key_held, m)
+    rw (w.answer, w.tid_held, w.kid_held) (key_or_rest s w.row.key (key_from n s tid kid w.row.key.to) w.key_held m (same_ids r.tid r.kid tid kid))
 
 -- in a table that was judged before, and by itself
 pub find_finds : (rs : List Row) → GoodTable rs → (tid kid : List ℕ) → find_from 64 (encode_table rs) tid kid 0 ≡ key_in rs tid kid

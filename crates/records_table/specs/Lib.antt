@@ -1,4 +1,3 @@
 pub mod Order
 pub mod Tables
 pub mod Reading
-pub mod Inner

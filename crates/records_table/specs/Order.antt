@@ -1,6 +1,6 @@
 -- Meaning. The order of a table's rows. Document 01, "House records": "strictly ascending by tid bytes, then kid bytes, where a string
 -- comes before any longer one that begins with it".
-use Rattle.std.specs.Prelude.{Bool, true, false, List, [], ◌∷◌, ℕ, ltb}
+use Rattle.std.specs.Prelude.{Bool, true, false, ◌&&◌, ◌||◌, List, [], ◌∷◌, ℕ, ltb}
 use Rattle.basis.specs.Basis.{pick}
 use Rattle.basis.specs.Same.{same_of}
 
@@ -12,7 +12,7 @@ before_of (a ∷ s) (b ∷ t) = pick (ltb a b) true (pick (ltb b a) false (befor
 
 -- the row with tid t and kid k stands before that with tid and kid
 unfoldable pub ascends : List ℕ → List ℕ → List ℕ → List ℕ → Bool
-ascends t k tid kid = pick (before_of t tid) true (pick (same_of t tid) (before_of k kid) false)
+ascends t k tid kid = before_of t tid || (same_of t tid && before_of k kid)
 
 unfoldable pub same_ids : List ℕ → List ℕ → List ℕ → List ℕ → Bool
-same_ids t k tid kid = pick (same_of t tid) (same_of k kid) false
+same_ids t k tid kid = same_of t tid && same_of k kid

@@ -3,16 +3,21 @@
 #![tactic(auto)]
 
 ghost use Rattle.std.specs.Prelude.{◌≡◌};
-ghost use Rattle.records_table.specs.Order.{before_of, ascends, same_ids};
 ghost use Rattle.basis.specs.Basis.{between, behind};
 ghost use Rattle.basis.specs.Limits.{rows_most};
-ghost use Rattle.records_table.specs.Reading.{row_body, read_row, row_after, table_ok};
-ghost use Rattle.records_table.specs.Inner.{IdsInside};
+ghost use Rattle.records_table.specs.Reading.{read_row, table_ok, key_from};
 ghost use Rattle.records_table.specs.Reading.{find_from, place_from, lookup_of, lookup_place};
 
 use basis::{Span, limits};
 use cbor_strings::Class;
-use records::{RecordParts, Run};
+
+// The ids of a row: it is found by them, and rows ascend by tid, then by kid. std's order of byte strings is that of
+// the rows: bytewise, and a string comes before any longer one that begins with it.
+#[derive(Clone, Copy, PartialEq, Eq, PartialOrd, Ord)]
+struct Ids<'a> {
+    tid: &'a [u8],
+    kid: &'a [u8],
+}
 
 // Where the parts of a row lie; the row ends where its key does.
 #[derive(Clone, Copy)]
@@ -22,200 +27,95 @@ pub struct RowAt {
     pub key: Span,
 }
 
-#[derive(Clone, Copy)]
-pub enum RowParts {
-    Of { row: RowAt },
-    Bad,
-}
-
-// Whether x stands before y: bytewise, and before any longer string that begins with it.
-pub fn before(x: &[u8], y: &[u8]) -> bool
-    ensures { result ≡ before_of x.now y.now }
-{
-    let mut i: usize = 0;
-    while i < x.len() {
-        if y.len() <= i {
-            return false;
+impl RowAt {
+    // Its ids, in the table where it lies.
+    fn ids<'a>(self, table: &'a [u8]) -> Ids<'a>
+        ensures tid { result.tid.now ≡ between table.now self.tid }
+        ensures kid { result.kid.now ≡ between table.now self.kid }
+    {
+        Ids {
+            tid: basis::lend(table, self.tid),
+            kid: basis::lend(table, self.kid),
         }
-        if x[i] < y[i] {
-            return true;
-        }
-        if y[i] < x[i] {
-            return false;
-        }
-        i += 1;
-    }
-    i < y.len()
-}
-
-// Whether the row with tid t and kid k stands before that with tid and kid.
-fn row_before(t: &[u8], k: &[u8], tid: &[u8], kid: &[u8]) -> bool
-    ensures { result ≡ ascends t.now k.now tid.now kid.now }
-{
-    if before(t, tid) {
-        return true;
-    }
-    if basis::same(t, tid) {
-        return before(k, kid);
-    }
-    false
-}
-
-fn row_body(s: &[u8], body: Span) -> RowParts
-    ensures { result ≡ row_body s.now body }
-{
-    match records::text_at(s, body.from, 1, Class::Name, 1, limits::NAME_MOST) {
-        Run::Bad => RowParts::Bad,
-        Run::Of { span: tid } => match records::text_at(
-            s,
-            tid.to,
-            1,
-            Class::Name,
-            1,
-            limits::NAME_MOST,
-        ) {
-            Run::Bad => RowParts::Bad,
-            Run::Of { span: kid } => {
-                if body.to < kid.to {
-                    return RowParts::Bad;
-                }
-                if body.to - kid.to == limits::KEY_LENGTH {
-                    return RowParts::Of {
-                        row: RowAt {
-                            tid,
-                            kid,
-                            key: Span {
-                                from: kid.to,
-                                to: body.to,
-                            },
-                        },
-                    };
-                }
-                RowParts::Bad
-            }
-        },
     }
 }
 
-fn row_at(s: &[u8], at: usize) -> RowParts
+#[tactic(auto, unfolding(crate::specs::Reading::read_row))]
+fn row_at(s: &[u8], at: usize) -> Option<RowAt>
     ensures { result ≡ read_row s.now at }
 {
-    match records::record_at(s, at) {
-        RecordParts::Bad => RowParts::Bad,
-        RecordParts::Of { record } => {
-            if record.kind == limits::ROW_KIND {
-                let body = record.body;
-                return row_body(s, body);
-            }
-            RowParts::Bad
-        }
+    let record = records::record_at(s, at)?;
+    if record.kind != limits::ROW_KIND {
+        return None;
     }
-}
-
-// Whether a row's ids stand behind those of the last one, where they lie.
-fn ids_ascend(s: &[u8], last: RowAt, row: RowAt) -> bool
-    requires { IdsInside s.now last × IdsInside s.now row }
-    ensures { result ≡ ascends (between s.now last.tid) (between s.now last.kid) (between s.now row.tid) (between s.now row.kid) }
-{
-    let t = last.tid.from;
-    let t_end = last.tid.to;
-    let k = last.kid.from;
-    let k_end = last.kid.to;
-    let tid = row.tid.from;
-    let tid_end = row.tid.to;
-    let kid = row.kid.from;
-    let kid_end = row.kid.to;
-    row_before(
-        &s[t..t_end],
-        &s[k..k_end],
-        &s[tid..tid_end],
-        &s[kid..kid_end],
-    )
-}
-
-// The row at a place, if it stands behind the last one.
-fn row_after(s: &[u8], at: usize, last: RowAt) -> RowParts
-    requires { IdsInside s.now last }
-    ensures { result ≡ row_after s.now (between s.now last.tid) (between s.now last.kid) at }
-{
-    match row_at(s, at) {
-        RowParts::Bad => RowParts::Bad,
-        RowParts::Of { row } => {
-            if ids_ascend(s, last, row) {
-                return RowParts::Of { row };
-            }
-            RowParts::Bad
-        }
+    let Span { from, to } = record.body;
+    let tid = records::text_at(s, from, 1, Class::Name, 1, limits::NAME_MOST)?;
+    let kid = records::text_at(s, tid.to, 1, Class::Name, 1, limits::NAME_MOST)?;
+    if to < kid.to || to - kid.to != limits::KEY_LENGTH {
+        return None;
     }
+    let key = Span { from: kid.to, to };
+    Some(RowAt { tid, kid, key })
 }
 
+#[tactic(auto, using(crate::proofs::Walks::walk), unfolding(crate::specs::Reading::ok_from, crate::specs::Reading::row_after, crate::specs::Reading::table_ok))]
 pub fn table_ok(s: &[u8]) -> bool
     ensures { result ≡ table_ok s.now }
 {
-    let none = Span { from: 0, to: 0 };
-    let mut last = RowAt {
-        tid: none,
-        kid: none,
-        key: none,
+    // before the first row stand empty ids, which come before all others
+    let mut last = Ids {
+        tid: &s[..0],
+        kid: &s[..0],
     };
-    let mut left: u32 = limits::ROWS_MOST;
-    while last.key.to != s.len() {
-        if left == 0 {
+    let mut at: usize = 0;
+    for _row in 0..limits::ROWS_MOST {
+        if at == s.len() {
+            return true;
+        }
+        let Some(row) = row_at(s, at) else {
+            return false;
+        };
+        let ids = row.ids(s);
+        // `cmp`, for `last >= ids` goes byte by byte: it was tried, and verify has 2 in 100 instructions more
+        if last.cmp(&ids).is_ge() {
             return false;
         }
-        match row_after(s, last.key.to, last) {
-            RowParts::Bad => {
-                return false;
-            }
-            RowParts::Of { row } => {
-                last = row;
-            }
-        }
-        left -= 1;
+        last = ids;
+        at = row.key.to;
     }
-    true
+    at == s.len()
 }
 
-// Whether a row's ids are those asked for.
-fn same_ids(t: &[u8], k: &[u8], tid: &[u8], kid: &[u8]) -> bool
-    ensures { result ≡ same_ids t.now k.now tid.now kid.now }
+// Where the key of the row with these ids lies.
+#[tactic(auto, using(crate::proofs::Walks::walk), unfolding(crate::specs::Reading::key_from, crate::specs::Order::same_ids))]
+fn key_at(table: &[u8], tid: &[u8], kid: &[u8]) -> Option<Span>
+    ensures { result ≡ key_from rows_most table.now tid.now kid.now 0 }
 {
-    if basis::same(t, tid) {
-        return basis::same(k, kid);
+    let wanted = Ids { tid, kid };
+    let mut p: usize = 0;
+    for _ in 0..limits::ROWS_MOST {
+        let row = row_at(table, p)?;
+        if row.ids(table) == wanted {
+            return Some(row.key);
+        }
+        p = row.key.to;
     }
-    false
+    None
 }
 
-// The key of the row with these ids, as it lies in a table that was judged before.
+// The key of the row with these ids, as it lies in a table that was judged before. A slice and no Option, in both:
+// `find_from` and `lookup_of`, which the demands' theorems name, say no bytes where there is no such row.
+#[tactic(auto, using(crate::proofs::Walks::key_bytes, crate::proofs::Walks::key_place))]
 pub fn find<'a>(table: &'a [u8], tid: &[u8], kid: &[u8]) -> &'a [u8]
     ensures result_value { result.now ≡ find_from rows_most table.now tid.now kid.now 0 }
     ensures ref_ptr_value { result.ref_ptr ≡ behind table.entry.ref_ptr (place_from rows_most table.now tid.now kid.now 0) }
 {
-    let mut rows: u32 = limits::ROWS_MOST;
-    let mut p: usize = 0;
-    while 0 < rows {
-        match row_at(table, p) {
-            RowParts::Bad => {
-                return &table[0..0];
-            }
-            RowParts::Of { row } => {
-                let t = row.tid.from;
-                let t_end = row.tid.to;
-                let k = row.kid.from;
-                let k_end = row.kid.to;
-                let key_end = row.key.to;
-                if same_ids(&table[t..t_end], &table[k..k_end], tid, kid) {
-                    let key = row.key.from;
-                    return &table[key..key_end];
-                }
-                p = key_end;
-            }
-        }
-        rows -= 1;
-    }
-    &table[0..0]
+    let nowhere = Span { from: 0, to: 0 };
+    let key = key_at(table, tid, kid).unwrap_or(nowhere);
+    basis::lend(table, key)
 }
 
+#[tactic(auto, unfolding(crate::specs::Reading::lookup_of, crate::specs::Reading::lookup_place))]
 pub fn lookup<'a>(table: &'a [u8], tid: &[u8], kid: &[u8]) -> &'a [u8]
     ensures result_value { result.now ≡ lookup_of table.now tid.now kid.now }
     ensures ref_ptr_value { result.ref_ptr ≡ behind table.entry.ref_ptr (lookup_place table.now tid.now kid.now) }

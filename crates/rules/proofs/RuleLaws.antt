@@ -3,12 +3,12 @@ use mathlib.Core.Path.{◌≡◌, refl, ap, ◌∙◌}
 use mathlib.Core.Bool.{Bool, true, false}
 use mathlib.Core.List.{List, [], ◌∷◌, ◌++◌, append_assoc}
 use mathlib.Core.Option.{Option, some, none}
-use Prim.Native.Nat.{ℕ, ◌+◌, ◌%◌}
+use Prim.Native.Nat.{ℕ, ◌+◌}
 use native.Mathlib.Omega.{arith}
 use lib.Dec.{leb}
 use lib.ListN.{length, drop}
-use Rattle.basis.specs.declared.Part.{Part}
-use Rattle.basis.specs.declared.Part.TheVariants.{Absent, At}
+use Rattle.basis.specs.declared.Span.{Span}
+use Rattle.std.specs.Prelude.{Option as Maybe, Some, None}
 use Rattle.basis.proofs.Held.{PartHeld}
 use Rattle.cbor_values.specs.declared.ListAt.{ListAt}
 use Rattle.basis.specs.Same.{same_of}
@@ -17,19 +17,17 @@ use Rattle.basis.proofs.Parts.{past}
 use Rattle.cbor_strings.specs.declared.Class.TheVariants.{Upper}
 use Rattle.cbor_keys.specs.Maps.{text, texts}
 use Rattle.cbor_keys.proofs.TextLaws.{text_written, text_held}
-use Rattle.token_cidr.specs.Prefixes.{GoodPrefix as GoodAddress}
-use Rattle.token_cidr.specs.declared.Network.{Network}
-use Rattle.token_cidr.proofs.TextLaws.{prefix_of}
+use Rattle.token_cidr.specs.Prefixes.{Prefix}
+use Rattle.token_cidr.specs.Reading.{net_of}
 use Rattle.token_cidr.specs.Bits.{agree_of}
 use Rattle.token_scope.specs.Scopes.{Scope, AllMethods, GoodScope}
 use Rattle.token_scope.specs.declared.ScopeAt.{ScopeAt}
-use Rattle.token_scope.specs.declared.Limit.{Limit}
 use Rattle.token_scope.proofs.Holds.{limit_of, Holds as ScopeHeld}
 use Rattle.token_caveat.specs.Caveats.{Caveat, amnesia, GoodCaveat}
 use Rattle.token_caveat_values.specs.declared.CaveatAt.{CaveatAt}
 use Rattle.token_caveat.proofs.Holds.{Holds as CaveatIs, exp_is, nbf_is, aud_is, method_is, path_is, cidr_is, bytes_is, rate_is, tenant_is, amnesia_is, digest_is, custom_is}
 use Rattle.records_request.specs.Requests.{Request, PerSecond}
-use Rattle.records_request.specs.declared.RateAt.{RateAt}
+use Rattle.records_request.specs.declared.Rate.{Rate as RateAt}
 use Rattle.records_request.specs.declared.RequestAt.{RequestAt}
 use Rattle.records_request.proofs.Holds.{rate_of, Holds as RequestHeld}
 use Rattle.rules.specs.Holding.{member_of, if_there, only_there, address_bytes, rate_within, failing, caveat_holds, scope_answer, caveat_answer}
@@ -52,14 +50,14 @@ member_held : (ms : List (List ℕ)) → AllMethods ms → (s m : List ℕ) (lis
     → member_in s list m ≡ member_of m ms
 member_held ms g s m list l e = rw (← l) (member_law ms g s (drop list.span.to s) m list.span.from e)
 
-prefix_law : (s path : List ℕ) (o : Option (List ℕ)) (part : Part) → PartHeld s o part → prefix_fits s part path ≡ if_there (λ p. fits_of p path) o
+prefix_law : (s path : List ℕ) (o : Option (List ℕ)) (part : Maybe Span) → PartHeld s o part → prefix_fits s part path ≡ if_there (λ p. fits_of p path) o
 unfolding prefix_fits
-prefix_law s path none Absent h = refl
-prefix_law s path none (At part) h = elim h [ ]
-prefix_law s path (some p) Absent h = elim h [ ]
-prefix_law s path (some p) (At part) h = ap (λ (t : List ℕ). fits_of t path) h
+prefix_law s path none None h = refl
+prefix_law s path none (Some part) h = elim h [ ]
+prefix_law s path (some p) None h = elim h [ ]
+prefix_law s path (some p) (Some part) h = ap (λ (t : List ℕ). fits_of t path) h
 
-limit_law : (size : ℕ) (o : Option ℕ) (limit : Limit) → limit_of o ≡ limit → limit_holds limit size ≡ if_there (leb size) o
+limit_law : (size : ℕ) (o : Option ℕ) (limit : Maybe ℕ) → limit_of o ≡ limit → limit_holds limit size ≡ if_there (leb size) o
 unfolding limit_holds
 limit_law size none limit e = rw (← e)
 limit_law size (some n) limit e = rw (← e)
@@ -77,34 +75,25 @@ scope_law s x g {parts} h body r q w =
       limit_law r.size x.max_bytes parts.max_bytes h.limit_held,
     )
 
-part_law : (body a : List ℕ) (o : Option (List ℕ)) (part : Part) → PartHeld body o part → part_is body part a ≡ only_there (same_of a) o
+part_law : (body a : List ℕ) (o : Option (List ℕ)) (part : Maybe Span) → PartHeld body o part → part_is body part a ≡ only_there (same_of a) o
 unfolding part_is
-part_law body a none Absent h = refl
-part_law body a none (At part) h = elim h [ ]
-part_law body a (some x) Absent h = elim h [ ]
-part_law body a (some x) (At part) h = ap (same_of a) h
+part_law body a none None h = refl
+part_law body a none (Some part) h = elim h [ ]
+part_law body a (some x) None h = elim h [ ]
+part_law body a (some x) (Some part) h = ap (same_of a) h
 
-rate_law : (per-s burst : ℕ) (o : Option PerSecond) (part : RateAt) → rate_of o ≡ part → rate_holds part per-s burst ≡ only_there (rate_within per-s burst) o
+rate_law : (per-s burst : ℕ) (o : Option PerSecond) (part : Maybe RateAt) → rate_of o ≡ part → rate_holds part per-s burst ≡ only_there (rate_within per-s burst) o
 unfolding rate_holds
 rate_law per-s burst none part e = rw (← e)
 rate_law per-s burst (some x) part e = rw (← e)
 
-peer_law : (body : List ℕ) (p : Network) → GoodAddress (prefix_of p) → (o : Option (List ℕ)) (part : Part) → PartHeld body o part
-    → peer_agrees body part p ≡ only_there (λ x. agree_of (address_bytes (prefix_of p)) x p.size) o
+peer_law : (body : List ℕ) (p : Prefix) (o : Option (List ℕ)) (part : Maybe Span) → PartHeld body o part
+    → peer_agrees body part (net_of p) ≡ only_there (λ x. agree_of (address_bytes p) x p.size) o
 unfolding peer_agrees
-peer_law body p g none Absent h = refl
-peer_law body p g none (At part) h = elim h [ ]
-peer_law body p g (some x) Absent h = elim h [ ]
-peer_law body p g (some x) (At part) h =
-    let ga = g.a_byte in
-    let gb = g.b_byte in
-    let gc = g.c_byte in
-    let gd = g.d_byte in
-    let ea : p.a % 256 ≡ p.a = omega arith in
-    let eb : p.b % 256 ≡ p.b = omega arith in
-    let ec : p.c % 256 ≡ p.c = omega arith in
-    let ed : p.d % 256 ≡ p.d = omega arith in
-    rw (ea, eb, ec, ed, h)
+peer_law body p none None h = refl
+peer_law body p none (Some part) h = elim h [ ]
+peer_law body p (some x) None h = elim h [ ]
+peer_law body p (some x) (Some part) h = rw h
 
 amnesia_law : (b flag : Bool) (r : Request) → r.amnesia ≡ flag → (tid : List ℕ) → amnesia_held b flag ≡ caveat_holds r tid (amnesia b)
 unfolding amnesia_held caveat_holds
@@ -119,7 +108,7 @@ module _ (s body tid : List ℕ) (r : Request) (q : RequestAt) (h : RequestHeld 
   held_law c part g (aud_is a p e) = rw e (part_law body a r.audience q.audience h.audience_held)
   held_law c part g (method_is ms list l e) = rw h.method_held (member_held ms g.each s r.method list l e)
   held_law c part g (path_is p x e) = rw (e, h.path_held)
-  held_law c part g (cidr_is n) = peer_law body n g r.peer q.peer h.peer_held
+  held_law c part g (cidr_is p n e) = rw (← e) (peer_law body p r.peer q.peer h.peer_held)
   held_law c part g (bytes_is n) = rw h.size_held
   held_law c part g (rate_is per-s burst) = rate_law per-s burst r.rate q.rate h.rate_held
   held_law c part g (tenant_is t p e) = rw e
@@ -134,7 +123,7 @@ module _ (s body tid : List ℕ) (r : Request) (q : RequestAt) (h : RequestHeld 
   failing_law c part (aud_is a p e) = refl
   failing_law c part (method_is ms list l e) = refl
   failing_law c part (path_is p x e) = refl
-  failing_law c part (cidr_is n) = refl
+  failing_law c part (cidr_is p n e) = refl
   failing_law c part (bytes_is n) = refl
   failing_law c part (rate_is per-s burst) = refl
   failing_law c part (tenant_is t p e) = refl

@@ -13,12 +13,12 @@ use Rattle.cbor_strings.proofs.PathLaws.{first_slash}
 use Rattle.rules_compare.specs.Fitting.{ends_in_slash, next_is_slash, fits_of, Fits, equal, slash_next, slash_last}
 
 -- a path begins with a prefix exactly when it is the prefix and something behind it
-does_start : (p t : List ℕ) → starts p (p ++ t) ≡ true
+pub does_start : (p t : List ℕ) → starts p (p ++ t) ≡ true
 unfolding starts
 does_start [] t = refl
 does_start (a ∷ p) t = rw (eq-eqb a a refl) (does_start p t)
 
-only_starts : (p t : List ℕ) → starts p t ≡ true → t ≡ p ++ drop (length p) t
+pub only_starts : (p t : List ℕ) → starts p t ≡ true → t ≡ p ++ drop (length p) t
 unfolding starts
 only_starts [] t e = refl
 only_starts (a ∷ p) [] e = absurd (false≢true e)

@@ -1,148 +1,128 @@
 -- The walks of the rules, in the terms that the code has: one law for each way out and for a turn.
-use Rattle.std.proofs.Common.{◌≡◌, ℕ, suc, ◌+◌, ◌-◌, ◌%◌, ◌^◌, ◌<◌, ◌≤◌, Bool, true, false, ◌&&◌, ◌||◌, eqb, ltb, leb, List, [], ◌∷◌, length, get_or, drop, sym, refl, ap, ◌∙◌, add-one, arith, drop_of_length-le, drop-cons, ltb-false, lt-ltb, eq-eqb, ne_eqb, le-leb}
-use mathlib.Core.Bool.{and-true, and-false, or-true}
-use lib.ListN.{get_or-eq_default}
+use Rattle.std.specs.Prelude.{Option, Some, None, Ok, Err, slice_get}
+use Rattle.std.specs.Option.{option_eq, option_copied}
+use Rattle.std.proofs.Common.{◌≡◌, ℕ, zero, suc, ◌+◌, ◌-◌, ◌<◌, ◌≤◌, Bool, true, false, ◌&&◌, ◌||◌, eqb, nat_eq, List, [], ◌∷◌, ◌++◌, length, get_or, take, drop, sym, refl, ap, ◌∙◌, arith, eq-eqb, ne_eqb, eqb-true, append-nil, Bor}
+use mathlib.Core.Bool.{or-true, or-false, false≢true}
+use lib.Pointwise.{pointwise}
 use Rattle.basis.specs.Basis.{pick, between}
 use Rattle.basis.specs.declared.Span.{Span}
 use Rattle.basis.specs.Same.{same_of}
-use Rattle.basis.proofs.Sameness.{other_length}
+use Rattle.basis.proofs.Pairs.{some_same}
+use Rattle.basis.proofs.Sameness.{same_equal}
+use Rattle.cbor_heads.specs.declared.defect.Defect.{Defect}
 use Rattle.cbor_strings.specs.Reading.{read_string}
 use Rattle.cbor_strings.specs.declared.Class.TheVariants.{Upper}
-use Rattle.cbor_strings.specs.declared.Content.TheVariants.{Of, Bad}
+use Rattle.cbor_strings.proofs.RunReads.{found, held}
 use Rattle.cbor_strings.specs.Paths.{slash, starts}
 use Rattle.rules_compare.specs.Fitting.{ends_in_slash, next_is_slash, fits_of}
-use Rattle.rules_compare.specs.Comparing.{member_at}
+use Rattle.rules_compare.proofs.FittingLaws.{does_start, only_starts}
+use Rattle.rules_compare.specs.Comparing.{member_then, member_at}
 
--- a path that is no longer than the prefix fits where it begins with it, and of a longer one two bytes decide besides
-unlike : (p t : List ℕ) → (length p ≡ length t → ⊥) → fits_of p t ≡ starts p t && (ends_in_slash p || next_is_slash p t)
-unfolding fits_of
-unlike p t d = rw (← other_length p t d)
-
-same_starts : (p t : List ℕ) → length p ≡ length t → same_of p t ≡ starts p t
-unfolding same_of starts
-same_starts [] [] h = refl
-same_starts [] (b ∷ t) h = let z : ⊥ = omega arith in elim z [ ]
-same_starts (a ∷ p) [] h = refl
-same_starts (a ∷ p) (b ∷ t) h = ap (λ (u : Bool). pick (eqb a b) u false) (same_starts p t (omega arith))
-
-as_long : (p t : List ℕ) → length p ≡ length t → starts p t ≡ fits_of p t
-unfolding fits_of
-as_long p t h = rw (same_starts p t h) (by (starts p t))
-  where
-    by : (u : Bool) → u ≡ u || (u && (ends_in_slash p || next_is_slash p t))
-    by true = refl
-    by false = refl
-
-starts_not : (p t : List ℕ) → length t < length p → starts p t ≡ false
+-- how the library says that a text begins with another one
+begins : (p t : List ℕ) → pointwise nat_eq (take (length p) t) p ≡ starts p t
 unfolding starts
-starts_not [] t h = let z : ⊥ = omega arith in elim z [ ]
-starts_not (a ∷ p) [] h = refl
-starts_not (a ∷ p) (b ∷ t) h = by (eqb a b) (starts_not p t (omega arith))
+begins [] t = refl
+begins (a ∷ p) [] = refl
+begins (a ∷ p) (b ∷ t) = by (eqb b a) refl (eqb a b) refl (begins p t)
   where
-    by : (u : Bool) → starts p t ≡ false → pick u (starts p t) false ≡ false
-    by true e = e
+    by : (u : Bool) → eqb b a ≡ u → (v : Bool) → eqb a b ≡ v → pointwise nat_eq (take (length p) t) p ≡ starts p t → u && pointwise nat_eq (take (length p) t) p ≡ pick v (starts p t) false
+    by true e true f g = g
+    by false e false f g = refl
+    by true e false f g = absurd (false≢true (sym f ∙ eq-eqb a b (sym (eqb-true b a e))))
+    by false e true f g = absurd (false≢true (sym e ∙ eq-eqb b a (sym (eqb-true a b f))))
+
+pub not_begun : (p t : List ℕ) → pointwise nat_eq (take (length p) t) p ≡ false → false ≡ fits_of p t
+unfolding fits_of
+not_begun p t b = rw starts_not (by (same_of p t) refl)
+  where
+    starts_not : starts p t ≡ false
+    starts_not = sym (begins p t) ∙ b
+
+    by : (u : Bool) → same_of p t ≡ u → false ≡ u || false
+    by true e = let f = sym (ap (starts p) (append-nil p)) ∙ does_start p [] in absurd (false≢true (sym starts_not ∙ ap (starts p) (sym (same_equal p t e)) ∙ f))
     by false e = refl
 
-pub too_short : (p t : List ℕ) → length t < length p → false ≡ fits_of p t
-too_short p t h = rw (unlike p t (λ e. omega arith), starts_not p t h)
+-- where it does, what is behind it and the last byte of it decide
+same_starts : (p rest : List ℕ) → same_of p (p ++ rest) ≡ eqb (length rest) 0
+same_starts [] [] = refl
+same_starts [] (a ∷ rest) = sym (ne_eqb _ _ (λ e. omega arith))
+same_starts (a ∷ p) rest = rw (eq-eqb a a refl) (same_starts p rest)
 
--- whether the first i bytes are the prefix's, of which `last` is the last; where they are, the rest decides
-pub record Fitting (p t : List ℕ) (b : Bool) (last i : ℕ) : Type 0 where
-  pub long : length p ≤ length t
-  pub inside : i ≤ length p
-  pub rest : b && starts (drop i p) (drop i t) ≡ starts p t
-  pub seen : last ≡ pick (ltb 0 i) (get_or p (i - 1) 0) 0
+follows : (p rest : List ℕ) → next_is_slash p (p ++ rest) ≡ eqb (get_or rest 0 0) slash
+unfolding next_is_slash
+follows [] rest = refl
+follows (a ∷ p) rest = follows p rest
 
-pub fitting_none : (p t : List ℕ) → length p ≤ length t → Fitting p t true 0 0
-fitting_none p t l = record { long = l; inside = omega arith; rest = refl; seen = refl }
+-- a byte that may be there
+is_byte : (o : Option (Bor ℕ)) (b : Bor ℕ) → option_eq (λ x y. nat_eq x.now y.now) o (Some b) ≡ option_eq nat_eq (option_copied o) (Some b.now)
+is_byte None b = refl
+is_byte (Some a) b = refl
 
-module _ (p t : List ℕ) (b : Bool) (last i : ℕ) (w : Fitting p t b last i) where
-  module _ (h : i < length p) where
-    in_t : i < length t
-    in_t = omega (arith, w.long)
+is_slash : (s : List ℕ) (at : ℕ) → option_eq nat_eq (slice_get s at) (Some slash) ≡ eqb (get_or s at 0) slash
+is_slash [] zero = refl
+is_slash [] (suc at) = refl
+is_slash (a ∷ s) zero = refl
+is_slash (a ∷ s) (suc at) = is_slash s at
 
-    now_last : get_or p i 0 ≡ pick (ltb 0 (i + 1)) (get_or p (i + 1 - 1) 0) 0
-    now_last = let z : i + 1 - 1 ≡ i = omega arith in rw (lt-ltb 0 (i + 1) (omega arith), z)
+pub slash_at : (o : Option (Bor ℕ)) (b : Bor ℕ) (s : List ℕ) (at : ℕ) → option_copied o ≡ slice_get s at → b.now ≡ slash
+    → option_eq (λ x y. nat_eq x.now y.now) o (Some b) ≡ eqb (get_or s at 0) slash
+slash_at o b s at e f = is_byte o b ∙ rw (e, f) (is_slash s at)
 
-    pub other_byte : (get_or p i 0 ≡ get_or t i 0 → ⊥) → Fitting p t false (get_or p i 0) (i + 1)
-    unfolding starts
-    other_byte d = record {
-      long = w.long;
-      inside = omega arith;
-      rest = sym (and-false b) ∙ (rw (drop-cons p i 0 h, drop-cons t i 0 in_t, ne_eqb _ _ d) at w.rest);
-      seen = now_last;
-    }
+is_empty : (s : List ℕ) → slice_get s 0 ≡ None → eqb (length s) 0 ≡ true
+is_empty [] e = refl
+is_empty (a ∷ s) e = cc
 
-    pub fitting_one : get_or p i 0 ≡ get_or t i 0 → Fitting p t b (get_or p i 0) (i + 1)
-    unfolding starts
-    fitting_one e = record {
-      long = w.long;
-      inside = omega arith;
-      rest = rw add-one (rw (drop-cons p i 0 h, drop-cons t i 0 in_t, eq-eqb _ _ e) at w.rest);
-      seen = now_last;
-    }
+begins_with : (s : List ℕ) {a : ℕ} → slice_get s 0 ≡ Some a → (eqb (length s) 0 ≡ false) × (get_or s 0 0 ≡ a)
+begins_with [] e = cc
+begins_with (a ∷ s) e = (ne_eqb _ _ (λ e. omega arith), some_same e)
 
-  -- behind the prefix: the path ends there, or the last byte or the next one decides
-  module _ (h : length p ≤ i) where
-    at_end : length p ≡ i
-    at_end = omega (arith, w.inside)
+module _ (p t rest : List ℕ) (b : pointwise nat_eq (take (length p) t) p ≡ true) (d : rest ≡ drop (length p) t) where
+  whole : t ≡ p ++ rest
+  whole = rw d (only_starts p t (sym (begins p t) ∙ b))
 
-    begun : starts p t ≡ b
-    unfolding starts
-    begun = sym (rw (drop_of_length-le p h) at w.rest) ∙ and-true b
+  decided : fits_of p t ≡ eqb (length rest) 0 || (eqb (get_or p (length p - 1) 0) slash || eqb (get_or rest 0 0) slash)
+  unfolding fits_of ends_in_slash
+  decided = rw (whole, does_start p rest, same_starts p rest, follows p rest) refl
 
-    ends : ends_in_slash p ≡ eqb last slash
-    unfolding ends_in_slash
-    ends = rw (at_end, w.seen) (by (ltb 0 i) refl)
-      where
-        by : (u : Bool) → ltb 0 i ≡ u → eqb (get_or p (i - 1) 0) slash ≡ eqb (pick u (get_or p (i - 1) 0) 0) slash
-        by true e = refl
-        by false e = rw (get_or-eq_default p 0 {n = i - 1} (omega (arith, at_end, ltb-false 0 i e)))
+  pub path_ends : slice_get rest 0 ≡ None → true ≡ fits_of p t
+  path_ends e = rw (decided, is_empty rest e)
 
-    next : next_is_slash p t ≡ eqb (get_or t i 0) slash
-    unfolding next_is_slash
-    next = ap (λ (i : ℕ). eqb (get_or t i 0) slash) at_end
+  module _ (next : ℕ) (e : slice_get rest 0 ≡ Some next) where
+    pub slash_behind : next ≡ slash → true ≡ fits_of p t
+    slash_behind f =
+        let g = begins_with rest e in
+        rw (decided, g.0, g.1, eq-eqb _ _ f, or-true (eqb (get_or p (length p - 1) 0) slash))
 
-    pub path_ends : i ≡ length t → b ≡ fits_of p t
-    path_ends e = sym begun ∙ as_long p t (at_end ∙ e)
-
-    module _ (g : i ≡ length t → ⊥) where
-      decided : fits_of p t ≡ b && (eqb last slash || eqb (get_or t i 0) slash)
-      decided = unlike p t (λ e. g (sym at_end ∙ e)) ∙ rw (begun, ends, next)
-
-      pub slash_before : last ≡ slash → b ≡ fits_of p t
-      slash_before e = sym (decided ∙ rw (eq-eqb last slash e, and-true b))
-
-      pub slash_behind : get_or t i 0 ≡ slash → b ≡ fits_of p t
-      slash_behind e = sym (decided ∙ rw (eq-eqb (get_or t i 0) slash e, or-true (eqb last slash), and-true b))
-
-      pub no_slash : (last ≡ slash → ⊥) → (get_or t i 0 ≡ slash → ⊥) → false ≡ fits_of p t
-      no_slash d e = sym (decided ∙ rw (ne_eqb last slash d, ne_eqb (get_or t i 0) slash e, and-false b))
-
-pub fitting_as : {p t : List ℕ} {b d : Bool} {last i : ℕ} → d ≡ b → Fitting p t b last i → Fitting p t d last i
-fitting_as e w = rw e w
+    pub slash_before : (next ≡ slash → ⊥) → (r : Bool) → r ≡ eqb (get_or p (length p - 1) 0) slash → r ≡ fits_of p t
+    slash_before f r q =
+        let g = begins_with rest e in
+        rw (decided, g.0, g.1, ne_eqb _ _ f, or-false (eqb (get_or p (length p - 1) 0) slash)) q
 
 -- methods: what follows decides
-module _ (k : ℕ) (s m : List ℕ) (p : ℕ) (g : 0 < k) where
-  one_method : member_at (suc (k - 1)) s m p ≡ member_at k s m p
-  one_method = let z : suc (k - 1) ≡ k = omega arith in ap (λ (k : ℕ). member_at k s m p) z
+module _ (n i : ℕ) (s m : List ℕ) (p : ℕ) {whole : Bool} (t : member_at (n - i) s m p ≡ whole) where
+  module _ (h : i < n) where
+    one_method : member_then (member_at (n - (i + 1)) s m) s m (read_string s p Upper 1 16) ≡ whole
+    unfolding member_at
+    one_method = let z : n - i ≡ suc (n - (i + 1)) = omega arith in rw z at t
 
-  pub no_method : {kind a : ℕ} → read_string s p Upper 1 16 ≡ Bad kind a → false ≡ member_at k s m p
+    pub no_method : {d : Defect} → read_string s p Upper 1 16 ≡ Err d → false ≡ whole
+    no_method e = rw e at one_method
+
+    module _ {part : Span} (e : read_string s p Upper 1 16 ≡ Ok part) where
+      pub this_method : same_of (between s part) m ≡ true → true ≡ whole
+      this_method q = rw (e, q) at one_method
+
+      pub next_method : same_of (between s part) m ≡ false → member_at (n - (i + 1)) s m part.to ≡ whole
+      next_method q = rw (e, q) at one_method
+
+  pub none_left : n ≤ i → false ≡ whole
   unfolding member_at
-  no_method e = rw e at one_method
+  none_left h = let z : n - i ≡ 0 = omega arith in rw z at t
 
-  module _ {part : Span} (e : read_string s p Upper 1 16 ≡ Of part) where
-    pub this_method : same_of (between s part) m ≡ true → true ≡ member_at k s m p
-    unfolding member_at
-    this_method q = rw (e, q) at one_method
+-- where a method was read, it lies within
+module _ (s : List ℕ) (p : ℕ) {part : Span} (e : read_string s p Upper 1 16 ≡ Ok part) where
+  pub in_order : part.from ≤ part.to
+  in_order = (found s p 3 1 16 (held s p Upper 1 16 e).run_found).order
 
-    pub next_method : same_of (between s part) m ≡ false → member_at (k - 1) s m part.to ≡ member_at k s m p
-    unfolding member_at
-    next_method q = rw (e, q) at one_method
-
--- a sum that passed the top is more than any number of 64 bits; one that did not is the sum
-pub past_top : (a b skew last : ℕ) → a < 2 ^ 64 → b < 2 ^ 64 → skew < 2 ^ 64 → last ≡ (b + skew) % 2 ^ 64 → last < b → true ≡ leb a (b + skew)
-past_top a b skew last ha hb hs e h = sym (le-leb a (b + skew) (omega arith))
-
-pub below_top : (a b skew last : ℕ) → b < 2 ^ 64 → skew < 2 ^ 64 → last ≡ (b + skew) % 2 ^ 64 → b ≤ last → leb a last ≡ leb a (b + skew)
-below_top a b skew last hb hs e h = let z : last ≡ b + skew = omega arith in ap (leb a) z
+  pub within : part.to ≤ length s
+  within = (found s p 3 1 16 (held s p Upper 1 16 e).run_found).inside

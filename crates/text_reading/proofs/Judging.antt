@@ -1,143 +1,92 @@
--- What the definition of judging computes to, in the terms that the code has.
-use mathlib.Core.Path.{◌≡◌, refl, ap, ◌∙◌}
-use mathlib.Core.Bool.{Bool, true, false, ◌&&◌}
-use mathlib.Core.List.{List, [], ◌∷◌}
-use Prim.Native.Nat.{ℕ, suc, ◌+◌, ◌-◌, ◌*◌, ◌/◌, ◌%◌, ◌≤◌, ◌<◌}
-use native.Mathlib.Nat.{zero-add}
-use native.Mathlib.Numerals.{add-one}
-use native.Mathlib.Omega.{arith}
-use borrow.Author.Tests.{ltb-true, lt-ltb, le-ltb, eq-eqb, ne_eqb}
-use lib.Dec.{ltb, eqb}
-use lib.ListN.{length, take, drop, get_or, drop_of_length-le, length-drop}
-use lib.Seq.{drop-cons, take_all}
-use Rattle.basis.specs.Basis.{pick}
-use Rattle.text_reading.specs.Reading.{digit_of, four_letters, bad_at, unused_of, byte_length, judged_of}
-use Rattle.text_reading.specs.declared.Judged.TheVariants.{Whole, Fault}
+-- Whether a text stands for bytes.
+use Rattle.std.proofs.Common.{◌≡◌, refl, sym, ◌∙◌, ℕ, zero, suc, ◌+◌, ◌-◌, ◌*◌, ◌/◌, ◌≤◌, ◌<◌, List, [], ◌∷◌, ◌++◌, Bool, true, false, not, cond, arith, length, take, drop, get_or, Option, None, zero-mul, zero-add, take-append-drop, length-append, length-drop, le-ltb}
+use Rattle.std.specs.List.{list_any, position, position_or_len}
+use Rattle.std.specs.Option.{unwrap_or, option_map}
+use Rattle.std.specs.Simd.{first_chunks}
+use Rattle.std.proofs.lemmas.List.{drop-drop, length-take-le}
+use Rattle.std.proofs.Math.Seq.{take_all}
+use Rattle.std.proofs.lemmas.List.Folds.{prefix_len-append}
+use Rattle.std.proofs.lemmas.List.Sums.{prefix_len_passes, prefix_len-le-length}
+use Rattle.std.proofs.lemmas.Grind.{common_steps}
+use Rattle.text_reading.specs.Reading.{digit_of, is_bad, bad_at, unused_of}
 
--- the unused bits are those of the last character, by the length that is left over
-abbrev last_of : List ℕ → ℕ
-last_of text = digit_of (get_or text (length text - 1) 0)
+-- `position` by the number that it compares
+module _ {X : Type 0} (p : X → Bool) (xs : List X) where
+  none_before : position p xs ≡ None → length xs ≤ position_or_len p xs
+  none_before e = grind (arith, common_steps)
 
-unused_by : (text : List ℕ) → unused_of text ≡ pick (eqb (length text % 4) 2) (last_of text % 16) (pick (eqb (length text % 4) 3) (last_of text % 4) 0)
+  pub none_after : length xs ≤ position_or_len p xs → position p xs ≡ None
+  none_after h = rw (le-ltb _ _ h)
+
+  or_all : unwrap_or (position p xs) (length xs) ≡ position_or_len p xs
+  or_all = let g = prefix_len-le-length (λ x. not (p x)) xs in grind (arith, common_steps)
+
+-- where no character is bad, each is a letter
+pub letter_at : (text : List ℕ) (i : ℕ) → bad_at text ≡ None → i < length text → digit_of (get_or text i 0) < 64
+letter_at text i e h =
+    let g = none_before is_bad text e in
+    let t = prefix_len_passes (λ c. not (is_bad c)) text i 0 (omega arith) in
+    grind (arith, common_steps)
+
+-- and none is in a part
+pub letters_parts : (s t : List ℕ) → bad_at (s ++ t) ≡ None → (bad_at s ≡ None) × (bad_at t ≡ None)
+letters_parts s t e =
+    let f = rw (length-append, prefix_len-append) at (none_before is_bad (s ++ t) e) in
+    let g = prefix_len-le-length (λ c. not (is_bad c)) s in
+    let r : (length s ≤ position_or_len is_bad s) × (length t ≤ position_or_len is_bad t) = (grind (arith, common_steps), grind (arith, common_steps)) in
+    (none_after is_bad s r.0, none_after is_bad t r.1)
+
+-- passing what has none in front, and so passing groups
+module _ (p : ℕ → Bool) where
+  past : (xs ys : List ℕ) → list_any p xs ≡ false → position_or_len p (xs ++ ys) ≡ length xs + position_or_len p ys
+  past [] ys e = sym (zero-add (position_or_len p ys))
+  past (x ∷ xs) ys e = let r = past xs ys in grind (arith, common_steps)
+
+  group_past : (b : Bool) (n j k : ℕ) (s : List ℕ) → n ≤ length s → list_any p (take n s) ≡ b → k ≡ cond (not b) (1 + j) 0
+      → position_or_len p (drop n s) ≡ j * n + position_or_len p (drop (j * n) (drop n s)) → position_or_len p s ≡ k * n + position_or_len p (drop (k * n) s)
+  group_past true n j k s h q e r = rw (e, zero-mul, zero-add)
+  group_past false n j k s h q e r =
+      let a = rw (take-append-drop, length-take-le n s h) at (past (take n s) (drop n s) q) in
+      let t = rw drop-drop at r in
+      let i : (1 + j) * n ≡ n + j * n = omega arith in
+      rw (e, i) (omega arith)
+
+  groups_past : (n count k : ℕ) (s : List ℕ) → count * n ≤ length s → k ≡ position_or_len (λ g. list_any p g) (first_chunks n count s)
+      → position_or_len p s ≡ k * n + position_or_len p (drop (k * n) s)
+  groups_past n zero k s h e = rw (e, zero-mul, zero-add)
+  groups_past n (suc count) k s h e =
+      let r = groups_past n count _ (drop n s) (rw length-drop (omega arith)) refl in
+      group_past (list_any p (take n s)) n _ k s (omega arith) refl e r
+
+  position_past : (s : List ℕ) (j : ℕ) → j ≤ length s → position_or_len p s ≡ j + position_or_len p (drop j s)
+      → option_map (λ i. j + i) (position p (drop j s)) ≡ position p s
+  position_past s j h e = let l = length-drop j s in grind (arith, common_steps)
+
+-- the place behind the groups that are passed is the place in the text
+pub place_past : (text : List ℕ) (groups : List (List ℕ)) (k : ℕ) (r : Option ℕ) → groups ≡ first_chunks 16 (length text / 16) text
+    → length groups ≡ length text / 16 → k ≡ unwrap_or (position (λ g. list_any is_bad g) groups) (length groups)
+    → r ≡ bad_at (take (length text - k * 16) (drop (k * 16) text)) → option_map (λ i. k * 16 + i) r ≡ bad_at text
+place_past text groups k r e l u f =
+    let q = u ∙ or_all (λ g. list_any is_bad g) groups in
+    let h : k ≤ length groups = rw q (prefix_len-le-length _ groups) in
+    let all = take_all (length text - k * 16) (drop (k * 16) text) (rw length-drop (omega arith)) in
+    let past = groups_past is_bad 16 (length text / 16) k text (omega arith) (rw e at q) in
+    rw (f, all) (position_past is_bad text (k * 16) (omega arith) past)
+
+-- the unused bits are those of what is left behind the groups of four
+pub unused_rest : (text : List ℕ) → unused_of text ≡ unused_of (drop (length text / 4 * 4) text)
 unfolding unused_of
-unused_by [] = refl
-unused_by (a ∷ []) = refl
-unused_by (a ∷ b ∷ []) = refl
-unused_by (a ∷ b ∷ c ∷ []) = refl
-unused_by (a ∷ b ∷ c ∷ d ∷ []) = refl
-unused_by (a ∷ b ∷ c ∷ d ∷ x ∷ t) =
-    let n = length (x ∷ t) in
-    let r : suc (suc (suc (suc n))) % 4 ≡ n % 4 = omega arith in
-    let i : suc (suc (suc (suc n))) - 1 ≡ suc (suc (suc (suc (n - 1)))) = omega arith in
-    rw (r, i) (unused_by (x ∷ t))
+unused_rest [] = refl
+unused_rest (a ∷ []) = refl
+unused_rest (a ∷ b ∷ []) = refl
+unused_rest (a ∷ b ∷ c ∷ []) = refl
+unused_rest (a ∷ b ∷ c ∷ d ∷ t) =
+    let i : suc (suc (suc (suc (length t)))) / 4 * 4 ≡ suc (suc (suc (suc (length t / 4 * 4)))) = omega arith in
+    rw i (unused_rest t)
 
--- the search for a character that is no letter: the first i are letters
-pub record Searched (text : List ℕ) (i : ℕ) : Type 0 where
-  pub inside : i ≤ length text
-  pub rest : i + bad_at (drop i text) ≡ bad_at text
+pub some_unused : (rest : List ℕ) → (unused_of rest ≡ 0 → ⊥) → 0 < length rest
+unfolding unused_of
+some_unused [] h = absurd (h refl)
+some_unused (a ∷ t) h = omega arith
 
-module _ (text : List ℕ) where
-  pub searched_none : Searched text 0
-  searched_none = record { inside = omega arith; rest = zero-add (bad_at text) }
-
-  module _ (i : ℕ) (k : Searched text i) where
-    pub searched_one : i < length text → digit_of (get_or text i 0) < 64 → Searched text (i + 1)
-    unfolding bad_at
-    searched_one h g =
-        let e : bad_at (drop i text) ≡ suc (bad_at (drop (i + 1) text)) = rw (drop-cons text i 0 h, lt-ltb _ _ g, add-one) in
-        record { inside = omega arith; rest = omega (arith, k.rest) }
-
-    pub found : i < length text → 64 ≤ digit_of (get_or text i 0) → i ≡ bad_at text
-    unfolding bad_at
-    found h g =
-        let e : bad_at (drop i text) ≡ 0 = rw (drop-cons text i 0 h, le-ltb _ _ g) in
-        omega (arith, k.rest)
-
-    pub found_none : length text ≤ i → i ≡ bad_at text
-    unfolding bad_at
-    found_none h =
-        let e : bad_at (drop i text) ≡ 0 = rw (drop_of_length-le text h) in
-        omega (arith, k.rest)
-
-pub bad_le : (text : List ℕ) → bad_at text ≤ length text
-unfolding bad_at
-bad_le [] = omega arith
-bad_le (c ∷ t) = by (ltb (digit_of c) 64) (bad_le t)
-  where
-    by : (b : Bool) → bad_at t ≤ length t → pick b (suc (bad_at t)) 0 ≤ length (c ∷ t)
-    by true h = omega arith
-    by false h = omega arith
-
-both : (p q : Bool) → p && q ≡ true → (p ≡ true) × (q ≡ true)
-both true q e = (refl, e)
-both false q e = (e, let z : ◌≡◌ {A = Bool} false true = e in cc)
-
--- four at a time
-module _ (text : List ℕ) (i : ℕ) (k : Searched text i) where
-  next : (j : ℕ) → j ≡ i + 1 → i < length text → ltb (digit_of (get_or text i 0)) 64 ≡ true → Searched text j
-  next j e h g = rw e (searched_one text i k h (ltb-true _ _ g))
-
-pub searched_four : (text : List ℕ) (i : ℕ) → Searched text i → 4 ≤ length text - i
-    → four_letters (get_or text i 0) (get_or text (i + 1) 0) (get_or text (i + 2) 0) (get_or text (i + 3) 0) ≡ true → Searched text (i + 4)
-unfolding four_letters
-searched_four text i k h e =
-    let a = both _ _ e in
-    let b = both _ _ a.1 in
-    let d = both _ _ b.1 in
-    let k1 = next text i k (i + 1) refl (omega arith) a.0 in
-    let k2 = next text (i + 1) k1 (i + 2) (omega arith) (omega arith) b.0 in
-    let k3 = next text (i + 2) k2 (i + 3) (omega arith) (omega arith) d.0 in
-    next text (i + 3) k3 (i + 4) (omega arith) (omega arith) d.1
-
--- the place in what is left is the place in the text
-pub found_behind : (text : List ℕ) (i r : ℕ) → Searched text i → r ≡ bad_at (take (length text - i) (drop i text)) → i + r ≡ bad_at text
-found_behind text i r k e = rw (e, take_all (length text - i) (drop i text) (simp length-drop (omega arith))) k.rest
-
--- one law for each way out of `judge`
-module _ (text : List ℕ) where
-  pub bad_letter : bad_at text < length text → Fault (bad_at text) ≡ judged_of text
-  unfolding judged_of
-  bad_letter h = rw (lt-ltb _ _ h)
-
-  module _ (h : length text ≤ bad_at text) where
-    pub bad_length : length text % 4 ≡ 1 → Fault (length text) ≡ judged_of text
-    unfolding judged_of
-    bad_length e = rw (le-ltb _ _ h, eq-eqb _ _ e)
-
-    module _ (m : length text % 4 ≡ 1 → ⊥) where
-      spare : (v : ℕ) → (v ≡ 0 → ⊥) → unused_of text ≡ v → Fault (length text - 1) ≡ judged_of text
-      unfolding judged_of
-      spare v z e = rw (le-ltb _ _ h, ne_eqb _ _ m, e, ne_eqb _ _ z)
-
-      none : unused_of text ≡ 0 → Whole (byte_length (length text)) ≡ judged_of text
-      unfolding judged_of
-      none e = rw (le-ltb _ _ h, ne_eqb _ _ m, e)
-
-      pub whole_groups : length text % 4 ≡ 0 → Whole (length text / 4 * 3) ≡ judged_of text
-      whole_groups e =
-          let n : length text / 4 * 3 ≡ byte_length (length text) = omega arith in
-          ap Whole n ∙ none (rw e at (unused_by text))
-
-      module _ (e : length text % 4 ≡ 2) where
-        two : unused_of text ≡ last_of text % 16
-        two = rw e at (unused_by text)
-
-        pub two_spare : (last_of text % 16 ≡ 0 → ⊥) → Fault (length text - 1) ≡ judged_of text
-        two_spare z = spare (last_of text % 16) z two
-
-        pub two_whole : last_of text % 16 ≡ 0 → Whole (length text / 4 * 3 + 1) ≡ judged_of text
-        two_whole z =
-            let n : length text / 4 * 3 + 1 ≡ byte_length (length text) = omega arith in
-            ap Whole n ∙ none (two ∙ z)
-
-      module _ (e : length text % 4 ≡ 3) where
-        three : unused_of text ≡ last_of text % 4
-        three = rw e at (unused_by text)
-
-        pub three_spare : (last_of text % 4 ≡ 0 → ⊥) → Fault (length text - 1) ≡ judged_of text
-        three_spare z = spare (last_of text % 4) z three
-
-        pub three_whole : last_of text % 4 ≡ 0 → Whole (length text / 4 * 3 + 2) ≡ judged_of text
-        three_whole z =
-            let n : length text / 4 * 3 + 2 ≡ byte_length (length text) = omega arith in
-            ap Whole n ∙ none (three ∙ z)
+pub ruleset unused_bits = (unused_rest, some_unused)

@@ -1,17 +1,20 @@
 -- One text for one list of bytes: decoding what encoding wrote gives the bytes, and whatever decodes is what encoding its bytes
 -- writes.
-use mathlib.Core.Path.{◌≡◌, refl, sym, ap, ◌∙◌}
+use mathlib.Core.Path.{◌≡◌, refl, sym, ◌∙◌}
+use mathlib.Core.Bool.{false}
 use mathlib.Core.List.{List, [], ◌∷◌}
-use Prim.Native.Nat.{ℕ, zero, suc, ◌+◌, ◌*◌, ◌/◌, ◌%◌, ◌<◌}
+use Prim.Native.Nat.{ℕ, zero, suc, ◌+◌, ◌*◌, ◌/◌, ◌%◌, ◌≤◌, ◌<◌}
 use native.Mathlib.Omega.{arith}
-use borrow.Author.Tests.{lt-ltb, le-ltb, ne_eqb}
+use borrow.Author.Tests.{lt-leb, ne_eqb}
 use lib.ListN.{length}
 use Rattle.basis.specs.Basis.{IsBytes}
 use Rattle.text_writing.specs.Base64url.{letter_of, base64url}
-use Rattle.text_reading.specs.Reading.{digit_of, bad_at, unused_of, byte_length, judged_of, bytes_of}
-use Rattle.text_reading.specs.declared.Judged.TheVariants.{Whole}
+use Rattle.text_reading.specs.Reading.{digit_of, is_bad, bad_at, unused_of, byte_length, judged_of, bytes_of}
+use Rattle.std.specs.Prelude.{None, Ok}
+use Rattle.std.specs.List.{position_or_len}
 use Rattle.text_reading.proofs.Letters.{digit_letter, letter_digit}
-use Rattle.text_reading.proofs.Filling.{letter_at, letters_drop, bytes_length}
+use Rattle.text_reading.proofs.Judging.{letter_at, letters_parts, none_after}
+use Rattle.text_reading.proofs.Filling.{bytes_length}
 use Rattle.text_reading.proofs.Decoding.{sound}
 
 -- the digits of a text that was written
@@ -65,29 +68,23 @@ bytes_text (x ∷ y ∷ z ∷ t) h =
     rw (d1 x y z f g k, d2 x y z f g k, d3 x y z f g k, d4 x y z f g k, v1 x y z f g k, v2 x y z f g k, v3 x y z f g k, bytes_text t (λ i. h (suc (suc (suc i)))))
 
 -- a text that was written is sound
-data Lettered : List ℕ → Type 0 where
-  none : Lettered []
-  more : (v : ℕ) {t : List ℕ} → v < 64 → Lettered t → Lettered (letter_of v ∷ t)
+good : (v : ℕ) → v < 64 → is_bad (letter_of v) ≡ false
+good v h = rw (digit_letter v h) (lt-leb 64 v h)
 
-lettered : {t : List ℕ} → Lettered t → bad_at t ≡ length t
-unfolding bad_at
-lettered none = refl
-lettered (more v h l) = rw (digit_letter v h, lt-ltb _ _ h) (ap suc (lettered l))
-
-text_lettered : (b : List ℕ) → IsBytes b → Lettered (base64url b)
+text_letters : (b : List ℕ) → IsBytes b → length (base64url b) ≤ position_or_len is_bad (base64url b)
 unfolding base64url
-text_lettered [] h = none
-text_lettered (x ∷ []) h = let f = h 0 in more (x / 4) (omega arith) (more (x % 4 * 16) (omega arith) none)
-text_lettered (x ∷ y ∷ []) h =
+text_letters [] h = omega arith
+text_letters (x ∷ []) h = let f = h 0 in rw (good (x / 4) (omega arith), good (x % 4 * 16) (omega arith)) (omega arith)
+text_letters (x ∷ y ∷ []) h =
     let f = h 0 in
     let g = h 1 in
-    more (x / 4) (omega arith) (more (x % 4 * 16 + y / 16) (omega arith) (more (y % 16 * 4) (omega arith) none))
-text_lettered (x ∷ y ∷ z ∷ t) h =
+    rw (good (x / 4) (omega arith), good (x % 4 * 16 + y / 16) (omega arith), good (y % 16 * 4) (omega arith)) (omega arith)
+text_letters (x ∷ y ∷ z ∷ t) h =
     let f = h 0 in
     let g = h 1 in
     let k = h 2 in
-    more (x / 4) (omega arith) (more (x % 4 * 16 + y / 16) (omega arith)
-    (more (y % 16 * 4 + z / 64) (omega arith) (more (z % 64) (omega arith) (text_lettered t (λ i. h (suc (suc (suc i))))))))
+    let r = text_letters t (λ i. h (suc (suc (suc i)))) in
+    rw (good (x / 4) (omega arith), good (x % 4 * 16 + y / 16) (omega arith), good (y % 16 * 4 + z / 64) (omega arith), good (z % 64) (omega arith)) (omega arith)
 
 pub unused_text : (b : List ℕ) → IsBytes b → unused_of (base64url b) ≡ 0
 unfolding base64url unused_of
@@ -104,12 +101,12 @@ shape_text (x ∷ y ∷ []) = (λ e. omega arith, refl)
 shape_text (x ∷ y ∷ z ∷ t) = let r = shape_text t in (λ e. r.0 (omega arith), omega (arith, r.1))
 
 -- decoding what encoding wrote
-pub judged_text : (b : List ℕ) → IsBytes b → judged_of (base64url b) ≡ Whole (length b)
+pub judged_text : (b : List ℕ) → IsBytes b → judged_of (base64url b) ≡ Ok (length b)
 unfolding judged_of
 judged_text b h =
     let s = shape_text b in
-    let e = lettered (text_lettered b h) in
-    rw (e, le-ltb (length (base64url b)) (length (base64url b)) (omega arith), ne_eqb _ _ s.0, unused_text b h, s.1)
+    let e = none_after is_bad (base64url b) (text_letters b h) in
+    rw (e, ne_eqb _ _ s.0, unused_text b h, s.1)
 
 -- the letters of bytes that were read
 module _ (a b c d : ℕ) (ha : a < 64) (hb : b < 64) (hc : c < 64) (hd : d < 64) where
@@ -131,19 +128,19 @@ module _ (a b c d : ℕ) (ha : a < 64) (hb : b < 64) (hc : c < 64) (hd : d < 64)
   s3 : c % 4 ≡ 0 → (b % 16 * 16 + c / 4) % 16 * 4 ≡ c
   s3 e = omega arith
 
-text_bytes : (text : List ℕ) → bad_at text ≡ length text → (length text % 4 ≡ 1 → ⊥) → unused_of text ≡ 0 → base64url (bytes_of text) ≡ text
+text_bytes : (text : List ℕ) → bad_at text ≡ None → (length text % 4 ≡ 1 → ⊥) → unused_of text ≡ 0 → base64url (bytes_of text) ≡ text
 unfolding base64url bytes_of unused_of
 text_bytes [] e l u = refl
 text_bytes (a ∷ []) e l u = elim (l refl) [ ]
 text_bytes (a ∷ b ∷ []) e l u =
-    let la = letter_at (a ∷ b ∷ []) e 0 (omega arith) in
-    let lb = letter_at (a ∷ b ∷ []) e 1 (omega arith) in
+    let la = letter_at (a ∷ b ∷ []) 0 e (omega arith) in
+    let lb = letter_at (a ∷ b ∷ []) 1 e (omega arith) in
     let z : 0 < 64 = omega arith in
     rw (r1 (digit_of a) (digit_of b) 0 0 la lb z z, s2 (digit_of a) (digit_of b) 0 0 la lb z z u, letter_digit a la, letter_digit b lb)
 text_bytes (a ∷ b ∷ c ∷ []) e l u =
-    let la = letter_at (a ∷ b ∷ c ∷ []) e 0 (omega arith) in
-    let lb = letter_at (a ∷ b ∷ c ∷ []) e 1 (omega arith) in
-    let lc = letter_at (a ∷ b ∷ c ∷ []) e 2 (omega arith) in
+    let la = letter_at (a ∷ b ∷ c ∷ []) 0 e (omega arith) in
+    let lb = letter_at (a ∷ b ∷ c ∷ []) 1 e (omega arith) in
+    let lc = letter_at (a ∷ b ∷ c ∷ []) 2 e (omega arith) in
     let z : 0 < 64 = omega arith in
     rw (
       r1 (digit_of a) (digit_of b) (digit_of c) 0 la lb lc z,
@@ -154,10 +151,10 @@ text_bytes (a ∷ b ∷ c ∷ []) e l u =
       letter_digit c lc,
     )
 text_bytes (a ∷ b ∷ c ∷ d ∷ t) e l u =
-    let la = letter_at (a ∷ b ∷ c ∷ d ∷ t) e 0 (omega arith) in
-    let lb = letter_at (a ∷ b ∷ c ∷ d ∷ t) e 1 (omega arith) in
-    let lc = letter_at (a ∷ b ∷ c ∷ d ∷ t) e 2 (omega arith) in
-    let ld = letter_at (a ∷ b ∷ c ∷ d ∷ t) e 3 (omega arith) in
+    let la = letter_at (a ∷ b ∷ c ∷ d ∷ t) 0 e (omega arith) in
+    let lb = letter_at (a ∷ b ∷ c ∷ d ∷ t) 1 e (omega arith) in
+    let lc = letter_at (a ∷ b ∷ c ∷ d ∷ t) 2 e (omega arith) in
+    let ld = letter_at (a ∷ b ∷ c ∷ d ∷ t) 3 e (omega arith) in
     rw (
       r1 (digit_of a) (digit_of b) (digit_of c) (digit_of d) la lb lc ld,
       r2 (digit_of a) (digit_of b) (digit_of c) (digit_of d) la lb lc ld,
@@ -167,40 +164,40 @@ text_bytes (a ∷ b ∷ c ∷ d ∷ t) e l u =
       letter_digit b lb,
       letter_digit c lc,
       letter_digit d ld,
-      text_bytes t (letters_drop 4 (a ∷ b ∷ c ∷ d ∷ t) e) (λ f. l (omega arith)) u,
+      text_bytes t ((letters_parts (a ∷ b ∷ c ∷ d ∷ []) t e).1) (λ f. l (omega arith)) u,
     )
 
 -- whatever decodes is the text of its bytes
-pub whole_text : (text : List ℕ) {n : ℕ} → judged_of text ≡ Whole n → base64url (bytes_of text) ≡ text
+pub whole_text : (text : List ℕ) {n : ℕ} → judged_of text ≡ Ok n → base64url (bytes_of text) ≡ text
 whole_text text e = let s = sound text e in text_bytes text s.letters s.left s.unused
 
 -- and what it stands for are bytes
-decoded_bytes : (text : List ℕ) → bad_at text ≡ length text → IsBytes (bytes_of text)
+decoded_bytes : (text : List ℕ) → bad_at text ≡ None → IsBytes (bytes_of text)
 unfolding bytes_of
 decoded_bytes [] e i = omega arith
 decoded_bytes (a ∷ []) e i = omega arith
 decoded_bytes (a ∷ b ∷ []) e zero =
-    let la = letter_at (a ∷ b ∷ []) e 0 (omega arith) in
-    let lb = letter_at (a ∷ b ∷ []) e 1 (omega arith) in
+    let la = letter_at (a ∷ b ∷ []) 0 e (omega arith) in
+    let lb = letter_at (a ∷ b ∷ []) 1 e (omega arith) in
     omega arith
 decoded_bytes (a ∷ b ∷ []) e (suc i) = omega arith
 decoded_bytes (a ∷ b ∷ c ∷ []) e zero =
-    let la = letter_at (a ∷ b ∷ c ∷ []) e 0 (omega arith) in
-    let lb = letter_at (a ∷ b ∷ c ∷ []) e 1 (omega arith) in
+    let la = letter_at (a ∷ b ∷ c ∷ []) 0 e (omega arith) in
+    let lb = letter_at (a ∷ b ∷ c ∷ []) 1 e (omega arith) in
     omega arith
-decoded_bytes (a ∷ b ∷ c ∷ []) e (suc zero) = let lc = letter_at (a ∷ b ∷ c ∷ []) e 2 (omega arith) in omega arith
+decoded_bytes (a ∷ b ∷ c ∷ []) e (suc zero) = let lc = letter_at (a ∷ b ∷ c ∷ []) 2 e (omega arith) in omega arith
 decoded_bytes (a ∷ b ∷ c ∷ []) e (suc (suc i)) = omega arith
 decoded_bytes (a ∷ b ∷ c ∷ d ∷ t) e zero =
-    let la = letter_at (a ∷ b ∷ c ∷ d ∷ t) e 0 (omega arith) in
-    let lb = letter_at (a ∷ b ∷ c ∷ d ∷ t) e 1 (omega arith) in
+    let la = letter_at (a ∷ b ∷ c ∷ d ∷ t) 0 e (omega arith) in
+    let lb = letter_at (a ∷ b ∷ c ∷ d ∷ t) 1 e (omega arith) in
     omega arith
-decoded_bytes (a ∷ b ∷ c ∷ d ∷ t) e (suc zero) = let lc = letter_at (a ∷ b ∷ c ∷ d ∷ t) e 2 (omega arith) in omega arith
-decoded_bytes (a ∷ b ∷ c ∷ d ∷ t) e (suc (suc zero)) = let ld = letter_at (a ∷ b ∷ c ∷ d ∷ t) e 3 (omega arith) in omega arith
-decoded_bytes (a ∷ b ∷ c ∷ d ∷ t) e (suc (suc (suc i))) = decoded_bytes t (letters_drop 4 (a ∷ b ∷ c ∷ d ∷ t) e) i
+decoded_bytes (a ∷ b ∷ c ∷ d ∷ t) e (suc zero) = let lc = letter_at (a ∷ b ∷ c ∷ d ∷ t) 2 e (omega arith) in omega arith
+decoded_bytes (a ∷ b ∷ c ∷ d ∷ t) e (suc (suc zero)) = let ld = letter_at (a ∷ b ∷ c ∷ d ∷ t) 3 e (omega arith) in omega arith
+decoded_bytes (a ∷ b ∷ c ∷ d ∷ t) e (suc (suc (suc i))) = decoded_bytes t ((letters_parts (a ∷ b ∷ c ∷ d ∷ []) t e).1) i
 
-pub whole_bytes : (text : List ℕ) {n : ℕ} → judged_of text ≡ Whole n → IsBytes (bytes_of text)
+pub whole_bytes : (text : List ℕ) {n : ℕ} → judged_of text ≡ Ok n → IsBytes (bytes_of text)
 whole_bytes text e = decoded_bytes text (sound text e).letters
 
 -- as many as were counted
-pub whole_length : (text : List ℕ) {n : ℕ} → judged_of text ≡ Whole n → length (bytes_of text) ≡ n
+pub whole_length : (text : List ℕ) {n : ℕ} → judged_of text ≡ Ok n → length (bytes_of text) ≡ n
 whole_length text e = bytes_length text ∙ sym (sound text e).count

@@ -2,14 +2,36 @@
 // the room as it was.
 #![tactic(auto)]
 
-ghost use Rattle.std.specs.Prelude.{◌≡◌, ◌<◌, length};
+ghost use Rattle.std.specs.Prelude.{◌≡◌, [], ◌∷◌, ◌+◌, ◌*◌, ◌/◌, ◌%◌, ◌<◌, ◌≤◌, length, position, None};
+ghost use Rattle.std.specs.List.{list_any};
 ghost use Rattle.basis.specs.Basis.{over};
-ghost use Rattle.text_reading.specs.Reading.{digit_of, four_letters, bad_at, judged_of, bytes_of, Filled};
-ghost use Rattle.text_reading.specs.Inner.{IsDigits, Fillable};
+ghost use Rattle.text_reading.specs.Reading.{digit_of, is_bad, bad_at, unused_of, judged_of, byte_length, bytes_of};
+ghost use Rattle.text_reading.specs.Reading.{undecoded_answer, Filled};
 
-// The six bits of each character, and 64 for one that is no letter. The compiler lays the table out anew
-// where it is named, so that loops are lent it.
-const DIGITS: [u8; 256] = *b"\x40\x40\x40\x40\x40\x40\x40\x40\x40\x40\x40\x40\x40\x40\x40\x40\
+use answers::Answer;
+use basis::copy;
+
+// Why a text is not decoded: it stands for no bytes, by its first fault, or for more than the room holds.
+#[derive(Clone, Copy, Debug, PartialEq, Eq)]
+pub enum Undecoded {
+    Bad { at: usize },
+    Short,
+}
+
+// A text too long for its room is one over its limit; the place is not told by document 01's answers.
+impl From<Undecoded> for Answer {
+    ghost from_gives = { λ undecoded answer. answer ≡ undecoded_answer undecoded };
+
+    fn from(undecoded: Undecoded) -> Answer {
+        match undecoded {
+            Undecoded::Bad { .. } => Answer::ParseB64,
+            Undecoded::Short => Answer::ParseBounds,
+        }
+    }
+}
+
+// The six bits of each character, and 64 for one that is no letter: as Options they are no plainer, and twice as long.
+static DIGITS: [u8; 256] = *b"\x40\x40\x40\x40\x40\x40\x40\x40\x40\x40\x40\x40\x40\x40\x40\x40\
                              \x40\x40\x40\x40\x40\x40\x40\x40\x40\x40\x40\x40\x40\x40\x40\x40\
                              \x40\x40\x40\x40\x40\x40\x40\x40\x40\x40\x40\x40\x40\x3e\x40\x40\
                              \x34\x35\x36\x37\x38\x39\x3a\x3b\x3c\x3d\x40\x40\x40\x40\x40\x40\
@@ -26,143 +48,138 @@ const DIGITS: [u8; 256] = *b"\x40\x40\x40\x40\x40\x40\x40\x40\x40\x40\x40\x40\x4
                              \x40\x40\x40\x40\x40\x40\x40\x40\x40\x40\x40\x40\x40\x40\x40\x40\
                              \x40\x40\x40\x40\x40\x40\x40\x40\x40\x40\x40\x40\x40\x40\x40\x40";
 
-// What a text is: so many bytes, or where it is first at fault.
-#[derive(Clone, Copy)]
-pub enum Judged {
-    Whole { n: usize },
-    Fault { at: usize },
-}
-
-#[derive(Clone, Copy)]
-pub enum Decoded {
-    Bytes { n: usize },
-    Bad { at: usize },
-    Short,
-}
-
-fn digit(digits: &[u8; 256], c: u8) -> u8
-    requires { IsDigits digits.now }
+#[tactic(auto, using(crate::proofs::Letters::table_is))]
+fn digit(c: u8) -> u8
     ensures { result ≡ digit_of c }
 {
-    digits[c as usize]
+    DIGITS[c as usize]
 }
 
-// Whether four characters are letters: 64 has the one bit that no letter's number has.
-fn four_letters(digits: &[u8; 256], a: u8, b: u8, c: u8, d: u8) -> bool
-    requires { IsDigits digits.now }
-    ensures { result ≡ four_letters a b c d }
+fn is_bad(c: u8) -> bool
+    ensures { result ≡ is_bad c }
 {
-    let front = digit(digits, a) | digit(digits, b);
-    let back = digit(digits, c) | digit(digits, d);
-    (front | back) < 64
+    64 <= digit(c)
 }
 
-// One by one, in a short text or to find the place.
-fn bad_in(digits: &[u8; 256], text: &[u8]) -> usize
-    requires { IsDigits digits.now }
+// One by one.
+fn bad_in(text: &[u8]) -> Option<usize>
     ensures { result ≡ bad_at text.now }
 {
-    let mut i: usize = 0;
-    while i < text.len() {
-        if 64 <= digit(digits, text[i]) {
-            return i;
-        }
-        i += 1;
-    }
-    i
+    text.iter().position(|&c| is_bad(c))
 }
 
-fn bad_at(digits: &[u8; 256], text: &[u8]) -> usize
-    requires { IsDigits digits.now }
+fn any_bad(group: &[u8; 16]) -> bool
+    ensures { result ≡ list_any is_bad group.now }
+{
+    group.iter().any(|&c| is_bad(c))
+}
+
+fn bad_group(groups: &[[u8; 16]]) -> Option<usize>
+    ensures { result ≡ position (λ g. list_any is_bad g) groups.now }
+{
+    groups.iter().position(any_bad)
+}
+
+// Sixteen at a time as far as all are letters, which the compiler unrolls: one by one takes twice the instructions.
+fn bad_at(text: &[u8]) -> Option<usize>
     ensures { result ≡ bad_at text.now }
 {
-    let mut i: usize = 0;
-    while 4 <= text.len() - i {
-        if four_letters(digits, text[i], text[i + 1], text[i + 2], text[i + 3]) {
-            i += 4;
-        } else {
-            return i + bad_in(digits, &text[i..]);
-        }
-    }
-    i + bad_in(digits, &text[i..])
+    let (groups, _) = text.as_chunks::<16>();
+    let passed = bad_group(groups).unwrap_or(groups.len()) * 16;
+    let at = bad_in(&text[passed..])?;
+    Some(passed + at)
 }
 
-pub fn judge(text: &[u8]) -> Judged
+// The unused bits of what is left behind the groups of four.
+#[tactic(auto, unfolding(crate::specs::Reading::unused_of))]
+fn unused(rest: &[u8]) -> u8
+    requires { length rest.now < 4 }
+    ensures { result ≡ unused_of rest.now }
+{
+    match *rest {
+        [_, b] => digit(b) % 16,
+        [_, _, c] => digit(c) % 4,
+        _ => 0,
+    }
+}
+
+// How many bytes a text stands for, or where it is first at fault.
+#[tactic(auto, using(crate::proofs::Judging::unused_bits), unfolding(crate::specs::Reading::judged_of))]
+pub fn judge(text: &[u8]) -> Result<usize, usize>
     ensures { result ≡ judged_of text.now }
 {
-    let digits = &DIGITS;
+    if let Some(at) = bad_at(text) {
+        return Err(at);
+    }
     let n = text.len();
-    let at = bad_at(digits, text);
-    if at < n {
-        return Judged::Fault { at };
+    let (_, rest) = text.as_chunks::<4>();
+    if rest.len() == 1 {
+        return Err(n);
     }
-    let left = n % 4;
-    if left == 1 {
-        return Judged::Fault { at: n };
+    if unused(rest) != 0 {
+        return Err(n - 1);
     }
-    let whole = n / 4 * 3;
-    if left == 0 {
-        return Judged::Whole { n: whole };
-    }
-    let last = digit(digits, text[n - 1]);
-    if left == 2 {
-        if last % 16 != 0 {
-            return Judged::Fault { at: n - 1 };
-        }
-        return Judged::Whole { n: whole + 1 };
-    }
-    if last % 4 != 0 {
-        return Judged::Fault { at: n - 1 };
-    }
-    Judged::Whole { n: whole + 2 }
+    Ok(n / 4 * 3 + n % 4 * 3 / 4)
 }
 
-// What is left of a text behind its groups of four letters.
-fn fill_rest(digits: &[u8; 256], text: &[u8], room: &mut [u8])
-    requires { Fillable text.now room.old × (length text.now < 4) × IsDigits digits.now }
-    ensures { room.new ≡ over (bytes_of text.now) room.old }
+// The three bytes of the six bits of four letters.
+fn joined(a: u8, b: u8, c: u8, d: u8) -> [u8; 3]
+    requires { (a < 64) × (b < 64) × (c < 64) × (d < 64) }
+    ensures { result ≡ (a * 4 + b / 16) ∷ (b % 16 * 16 + c / 4) ∷ (c % 4 * 64 + d) ∷ [] }
 {
-    if text.len() < 2 {
-        return;
-    }
-    let b = digit(digits, text[1]);
-    room[0] = digit(digits, text[0]) * 4 + b / 16;
-    if text.len() < 3 {
-        return;
-    }
-    room[1] = b % 16 * 16 + digit(digits, text[2]) / 4;
+    [a * 4 + b / 16, b % 16 * 16 + c / 4, c % 4 * 64 + d]
 }
 
-fn fill(digits: &[u8; 256], text: &[u8], room: &mut [u8])
-    requires { Fillable text.now room.old × IsDigits digits.now }
+#[tactic(auto, using(crate::proofs::Judging::letter_at), unfolding(crate::specs::Reading::bytes_of))]
+fn fill_group(group: &[u8; 4], room: &mut [u8])
+    requires letters { bad_at group.now ≡ None }
+    requires enough { 3 ≤ length room.old }
+    ensures { room.new ≡ over (bytes_of group.now) room.old }
+{
+    let [a, b, c, d] = *group;
+    copy(
+        &joined(digit(a), digit(b), digit(c), digit(d)),
+        &mut room[..3],
+    );
+}
+
+// What is left behind the groups of four: zeros stand for the letters that lack, and the bytes of zeros alone go.
+#[tactic(auto, using(crate::proofs::Judging::letter_at), unfolding(crate::specs::Reading::bytes_of))]
+fn fill_rest(rest: &[u8], room: &mut [u8])
+    requires letters { bad_at rest.now ≡ None }
+    requires few { length rest.now < 4 }
+    requires enough { byte_length (length rest.now) ≤ length room.old }
+    ensures { room.new ≡ over (bytes_of rest.now) room.old }
+{
+    match *rest {
+        [a, b] => copy(&joined(digit(a), digit(b), 0, 0)[..1], room),
+        [a, b, c] => copy(&joined(digit(a), digit(b), digit(c), 0)[..2], room),
+        _ => 0,
+    };
+}
+
+// As text_writing's `write`, from fours to threes: one function of both, with two closures, is no plainer.
+fn fill(text: &[u8], room: &mut [u8])
+    requires letters { bad_at text.now ≡ None }
+    requires enough { byte_length (length text.now) ≤ length room.old }
     ensures { room.new ≡ over (bytes_of text.now) room.old }
 {
-    let mut i: usize = 0;
-    let mut j: usize = 0;
-    while 4 <= text.len() - j {
-        let b = digit(digits, text[j + 1]);
-        let c = digit(digits, text[j + 2]);
-        room[i] = digit(digits, text[j]) * 4 + b / 16;
-        room[i + 1] = b % 16 * 16 + c / 4;
-        room[i + 2] = c % 4 * 64 + digit(digits, text[j + 3]);
-        i += 3;
-        j += 4;
+    let (groups, rest) = text.as_chunks::<4>();
+    for (k, group) in groups.iter().enumerate() {
+        fill_group(group, &mut room[k * 3..]);
     }
-    fill_rest(digits, &text[j..], &mut room[i..]);
+    fill_rest(rest, &mut room[groups.len() * 3..]);
 }
 
 // The bytes of a text at the front of the room, the rest of which stays.
-pub fn decode(text: &[u8], room: &mut [u8]) -> Decoded
+#[tactic(auto, unfolding(crate::specs::Reading::decoded_of, crate::specs::Reading::left_of))]
+pub fn decode(text: &[u8], room: &mut [u8]) -> Result<usize, Undecoded>
     ensures { Filled text.now room.old result room.new }
 {
-    match judge(text) {
-        Judged::Fault { at } => Decoded::Bad { at },
-        Judged::Whole { n } => {
-            if room.len() < n {
-                return Decoded::Short;
-            }
-            fill(&DIGITS, text, room);
-            Decoded::Bytes { n }
-        }
+    let n = judge(text).map_err(|at| Undecoded::Bad { at })?;
+    if room.len() < n {
+        return Err(Undecoded::Short);
     }
+    fill(text, room);
+    Ok(n)
 }

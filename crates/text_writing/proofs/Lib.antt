@@ -1,3 +1,3 @@
-pub mod Fronts
+pub mod Groups
 pub mod Writings
 pub mod OneAnswer

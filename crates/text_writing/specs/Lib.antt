@@ -1,3 +1,1 @@
 pub mod Base64url
-pub mod Inner
-pub mod Writing

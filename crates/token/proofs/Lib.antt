@@ -5,5 +5,5 @@ pub mod TokenRead
 pub mod OneToken
 pub mod WritingLaws
 pub mod OneAnswer
-pub mod DefectKinds
 pub mod TokenMap
+pub mod DefectKinds

@@ -3,6 +3,7 @@ use mathlib.Core.Path.{◌≡◌, refl, sym, subst, ◌∙◌}
 use mathlib.Core.List.{List}
 use Prim.Native.Nat.{ℕ}
 use lib.ListN.{drop}
+use Rattle.basis.proofs.Pairs.{ok_same}
 use Rattle.token_scope.specs.Scopes.{Scope}
 use Rattle.token_scope.proofs.OneScope.{scope_one}
 use Rattle.token_caveat.specs.Caveats.{Caveat}
@@ -11,7 +12,6 @@ use Rattle.token.specs.declared.TokenAt.{TokenAt}
 use Rattle.token.proofs.CaveatLists.{caveats_one}
 use Rattle.token.proofs.Holds.{Holds}
 use Rattle.token.proofs.TokenWritten.{token_written}
-use Rattle.token.proofs.TokenRead.{same_parts}
 
 -- what the same parts hold is the same token
 pub holds_one : (s : List ℕ) (t u : Token) → GoodToken t → GoodToken u → {parts : TokenAt} → Holds s t parts → Holds s u parts → t ≡ u
@@ -35,4 +35,4 @@ token_one t u gt gu e =
     let s = encode_token t in
     let x = token_written t gt s refl in
     let y = token_written u gu s e in
-    holds_one s t u gt gu (subst (Holds s t) (same_parts (sym x.answer ∙ y.answer)) x.holds) y.holds
+    holds_one s t u gt gu (subst (Holds s t) (ok_same (sym x.answer ∙ y.answer)) x.holds) y.holds

@@ -1,4 +1,5 @@
 -- A token within limits that was written reads back, and the answer's parts hold exactly the token's.
+use Rattle.std.specs.Prelude.{Ok}
 use mathlib.Core.Path.{◌≡◌, refl, sym, ap, ◌∙◌}
 use mathlib.Core.List.{List, [], ◌++◌, append_assoc, append-nil}
 use Prim.Native.Nat.{ℕ, ◌+◌, ◌-◌, ◌≤◌}
@@ -7,15 +8,13 @@ use borrow.Author.Tests.{eq-eqb}
 use lib.ListN.{length, drop, length-append, length-drop}
 use Rattle.basis.specs.Basis.{ascii, from_to, between}
 use Rattle.cbor_values.specs.Lists.{list_of}
-use Rattle.basis.specs.Same.{same_of}
 use Rattle.basis.proofs.Parts.{past, ends, lies}
 use Rattle.cbor_heads.specs.Heads.{head}
+use Rattle.cbor_heads.specs.declared.defect.Kind.TheVariants.{Bounds, Unknown}
 use Rattle.cbor_strings.specs.Strings.{string}
-use Rattle.cbor_strings.specs.declared.Content.TheVariants.{Of as Found}
 use Rattle.cbor_heads.proofs.CountLaws.{head_there, count}
 use Rattle.cbor_heads.proofs.HeadLengths.{head_one}
 use Rattle.cbor_strings.proofs.StringLaws.{read_run_written, content_there}
-use Rattle.cbor_values.specs.declared.Item.TheVariants.{End}
 use Rattle.cbor_keys.specs.Keys.{keys_of}
 use Rattle.cbor_keys.specs.Reading.{index_from}
 use Rattle.cbor_keys.specs.Maps.{text, entry, GoodName}
@@ -26,24 +25,20 @@ use Rattle.token_scope.specs.Scopes.{Scope, encode_scope, GoodScope}
 use Rattle.token_scope.proofs.ScopeWritten.{scope_written}
 use Rattle.token_caveat.specs.Caveats.{Caveat}
 use Rattle.token.specs.Tokens.{Token, encode_caveats, token_bytes, encode_token, AllCaveats, GoodToken}
-use Rattle.token_front.specs.Front.{r_then, r_key_then, caveats_then, c_then, map_then, front_of}
-use Rattle.token_back.specs.Back.{tag_field, version_field}
-use Rattle.token_back.specs.Values.{tag_at, version_then, version_at}
-use Rattle.token_back.specs.Back.{three_of, end_then, tid_then, kid_then, v_then, back_of}
-use Rattle.token.specs.Reading.{both_of, token_by, token_of}
+use Rattle.token_front.specs.Front.{two_of, front_of}
+use Rattle.token_back.specs.Back.{three_of, tag_field, version_field, back_of}
+use Rattle.token_back.specs.Values.{tag_at, version_at}
+use Rattle.token.specs.Reading.{both_of, token_of}
 use Rattle.token_front.specs.declared.FrontAt.{FrontAt}
-use Rattle.token_front.specs.declared.FrontParts.TheVariants.{Of as FrontFound}
 use Rattle.token_back.specs.declared.BackAt.{BackAt}
-use Rattle.token_back.specs.declared.BackParts.TheVariants.{Of as BackFound}
 use Rattle.token.specs.declared.TokenAt.{TokenAt}
-use Rattle.token.specs.declared.TokenParts.TheVariants.{Of}
 use Rattle.token.proofs.CaveatLists.{caveats_written}
 use Rattle.token.proofs.Holds.{HoldsFront, HoldsBack, Holds}
 
 -- c and r, at the front
 pub record FrontWritten (s : List ℕ) (cs : List Caveat) (x : Scope) (rest : List ℕ) : Type 0 where
   pub front : FrontAt
-  pub answer : front_of s ≡ FrontFound front
+  pub answer : front_of s ≡ Ok front
   pub holds : HoldsFront s cs x front.caveats front.scope
   pub behind : drop front.scope.to s ≡ rest
 
@@ -64,7 +59,7 @@ module _ (cs : List Caveat) (gc : AllCaveats cs) (few : length cs ≤ 64) (x : S
   rb = encode_scope x
 
   pub front_written : drop 0 s ≡ head 5 6 ++ (kc ++ (head 4 n ++ (cb ++ (kr ++ (rb ++ rest))))) → FrontWritten s cs x rest
-  unfolding front_of map_then c_then caveats_then r_key_then r_then keys_of index_from same_of
+  unfolding front_of keys_of index_from
   front_written d0 =
       let a1 = 0 + length (head 5 6) in
       let d1 = past s (head 5 6) (kc ++ (head 4 n ++ (cb ++ (kr ++ (rb ++ rest))))) 0 d0 in
@@ -78,14 +73,14 @@ module _ (cs : List Caveat) (gc : AllCaveats cs) (few : length cs ≤ 64) (x : S
       let d5 = past s kr (rb ++ rest) a4 d4 in
       let a6 = a5 + length rb in
       let d6 = past s rb rest a5 d5 in
-      let c0 = sym (count s 0 5 6 6 6 (head_there s (kc ++ (head 4 n ++ (cb ++ (kr ++ (rb ++ rest))))) 0 5 6 d0 (omega arith)) refl (omega arith) (omega arith)) in
-      let c1 = wanted_written TokenKeys (ascii "c") (omega arith) 0 refl (omega arith) s (head 4 n ++ (cb ++ (kr ++ (rb ++ rest)))) a1 d1 in
-      let c2 = sym (count s a2 4 0 64 5 (head_there s (cb ++ (kr ++ (rb ++ rest))) a2 4 n d2 (omega arith)) refl (omega arith) few) in
+      let c0 = sym (count s 0 5 6 6 Unknown (head_there s (kc ++ (head 4 n ++ (cb ++ (kr ++ (rb ++ rest))))) 0 5 6 d0 (omega arith)) refl (omega arith) (omega arith)) in
+      let c1 = wanted_written TokenKeys (ascii "c") (omega arith) 0 refl s (head 4 n ++ (cb ++ (kr ++ (rb ++ rest)))) a1 d1 in
+      let c2 = sym (count s a2 4 0 64 Bounds (head_there s (cb ++ (kr ++ (rb ++ rest))) a2 4 n d2 (omega arith)) refl (omega arith) few) in
       let c3 = caveats_written cs gc s (kr ++ (rb ++ rest)) a3 d3 in
-      let c4 = wanted_written TokenKeys (ascii "r") (omega arith) 1 refl (omega arith) s (rb ++ rest) a4 d4 in
+      let c4 = wanted_written TokenKeys (ascii "r") (omega arith) 1 refl s (rb ++ rest) a4 d4 in
       let w = scope_written x gx s rest a5 d5 in
       record {
-        front = record { caveats = list_of n (from_to a3 a4); scope = from_to a5 a6 };
+        front = two_of (list_of n (from_to a3 a4)) (from_to a5 a6);
         answer = rw (c0, c1, c2, c3, c4, w.answer);
         holds = record {
           counted_so = refl;
@@ -100,7 +95,7 @@ module _ (cs : List Caveat) (gc : AllCaveats cs) (few : length cs ≤ 64) (x : S
 -- s, v, kid and tid, with nothing behind them
 pub record BackWritten (s tb kb ib : List ℕ) (at : ℕ) : Type 0 where
   pub back : BackAt
-  pub answer : back_of s at ≡ BackFound back
+  pub answer : back_of s at ≡ Ok back
   pub holds : HoldsBack s tb kb ib back.tag back.kid back.tid
 
 module _ (tb kb ib : List ℕ) (lt : length tb ≡ 32) (gk : GoodName kb) (gi : GoodName ib) (s : List ℕ) (at : ℕ) where
@@ -117,23 +112,23 @@ module _ (tb kb ib : List ℕ) (lt : length tb ≡ 32) (gk : GoodName kb) (gi : 
   ki = entry "tid" (text ib)
 
   tag_written : (rest : List ℕ) → drop at s ≡ ks ++ (string 2 tb ++ rest)
-      → tag_field s at ≡ Found (from_to (at + length ks + length (head 2 (length tb))) (at + length ks + length (string 2 tb)))
-  unfolding tag_field tag_at keys_of index_from same_of
+      → tag_field s at ≡ Ok (from_to (at + length ks + length (head 2 (length tb))) (at + length ks + length (string 2 tb)))
+  unfolding tag_field tag_at keys_of index_from
   tag_written rest e =
       let a = at + length ks in
       let d = past s ks (string 2 tb ++ rest) at e in
       rw (
-        wanted_written TokenKeys (ascii "s") (omega arith) 2 refl (omega arith) s (string 2 tb ++ rest) at e,
+        wanted_written TokenKeys (ascii "s") (omega arith) 2 refl s (string 2 tb ++ rest) at e,
         read_run_written s tb rest a 2 d (omega arith) 32 32 (omega arith) (omega arith),
       )
-      (ap (λ (to : ℕ). Found (from_to (a + length (head 2 (length tb))) to)) (ends (head 2 (length tb)) tb a))
+      (ap (λ (to : ℕ). Ok (from_to (a + length (head 2 (length tb))) to)) (ends (head 2 (length tb)) tb a))
 
-  version_written : (p : ℕ) (rest : List ℕ) → drop p s ≡ kv ++ (head 0 1 ++ rest) → version_field s p ≡ End (p + length kv + length (head 0 1))
-  unfolding version_field version_at version_then keys_of index_from same_of
+  version_written : (p : ℕ) (rest : List ℕ) → drop p s ≡ kv ++ (head 0 1 ++ rest) → version_field s p ≡ Ok (p + length kv + length (head 0 1))
+  unfolding version_field version_at keys_of index_from
   version_written p rest e =
       let d = past s kv (head 0 1 ++ rest) p e in
       rw (
-        wanted_written TokenKeys (ascii "v") (omega arith) 3 refl (omega arith) s (head 0 1 ++ rest) p e,
+        wanted_written TokenKeys (ascii "v") (omega arith) 3 refl s (head 0 1 ++ rest) p e,
         number_written s rest (p + length kv) 1 0xffffffffffffffff (omega arith) (omega arith) d,
       )
 
@@ -152,7 +147,7 @@ module _ (tb kb ib : List ℕ) (lt : length tb ≡ 32) (gk : GoodName kb) (gi : 
       omega arith
 
   pub back_written : drop at s ≡ ks ++ (string 2 tb ++ (kv ++ (head 0 1 ++ (kk ++ (ki ++ []))))) → BackWritten s tb kb ib at
-  unfolding back_of v_then kid_then tid_then end_then keys_of index_from same_of
+  unfolding back_of keys_of index_from
   back_written d0 =
       let h = head 2 (length tb) in
       let a1 = at + length ks in
@@ -170,8 +165,8 @@ module _ (tb kb ib : List ℕ) (lt : length tb ≡ 32) (gk : GoodName kb) (gi : 
       let li = gi.most in
       let k1 = a4 + length (text (ascii "kid")) + length (head 3 (length kb)) in
       let i1 = a5 + length (text (ascii "tid")) + length (head 3 (length ib)) in
-      let c2 = name_field_written TokenKeys 4 (omega arith) (ascii "kid") (omega arith) refl s (ki ++ []) a4 kb gk d4 in
-      let c3 = name_field_written TokenKeys 5 (omega arith) (ascii "tid") (omega arith) refl s [] a5 ib gi d5 in
+      let c2 = name_field_written TokenKeys 4 (ascii "kid") (omega arith) refl s (ki ++ []) a4 kb gk d4 in
+      let c3 = name_field_written TokenKeys 5 (ascii "tid") (omega arith) refl s [] a5 ib gi d5 in
       let l : a6 ≡ length s = whole a5 d5 in
       record {
         back = three_of (from_to (a1 + length h) a2) (from_to k1 a5) (from_to i1 a6);
@@ -186,11 +181,11 @@ module _ (tb kb ib : List ℕ) (lt : length tb ≡ 32) (gk : GoodName kb) (gi : 
 -- the whole token
 pub record Written (s : List ℕ) (t : Token) : Type 0 where
   pub parts : TokenAt
-  pub answer : token_of s ≡ Of parts
+  pub answer : token_of s ≡ Ok parts
   pub holds : Holds s t parts
 
 pub token_written : (t : Token) → GoodToken t → (s : List ℕ) → s ≡ encode_token t → Written s t
-unfolding token_bytes token_by
+unfolding token_bytes token_of
 token_written t g s same =
     let n = length t.caveats in
     let cb = encode_caveats t.caveats in

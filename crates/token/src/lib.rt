@@ -7,9 +7,10 @@ ghost use Rattle.std.specs.Prelude.{◌≡◌};
 ghost use Rattle.token.specs.Reading.{token_of};
 
 use basis::Span;
+use cbor_heads::defect::Reading;
 use cbor_values::ListAt;
-use token_back::BackParts;
-use token_front::FrontParts;
+use token_back::BackAt;
+use token_front::FrontAt;
 
 // Where the parts of a token lie.
 #[derive(Clone, Copy)]
@@ -21,36 +22,17 @@ pub struct TokenAt {
     pub tid: Span,
 }
 
-// Where a token's parts lie, or what is wrong with it.
-#[derive(Clone, Copy)]
-pub enum TokenParts {
-    Of { token: TokenAt },
-    Bad { kind: u32, at: usize },
-}
-
-pub fn read_token(s: &[u8]) -> TokenParts
+#[tactic(auto, unfolding(crate::specs::Reading::token_of))]
+pub fn read_token(s: &[u8]) -> Reading<TokenAt>
     ensures { result ≡ token_of s.now }
 {
-    match token_front::read_front(s) {
-        FrontParts::Bad { kind, at: a } => TokenParts::Bad { kind, at: a },
-        FrontParts::Of { front } => match token_back::read_back(s, front.scope.to) {
-            BackParts::Bad { kind, at: a } => TokenParts::Bad { kind, at: a },
-            BackParts::Of { back } => {
-                let caveats = front.caveats;
-                let scope = front.scope;
-                let tag = back.tag;
-                let kid = back.kid;
-                let tid = back.tid;
-                TokenParts::Of {
-                    token: TokenAt {
-                        caveats,
-                        scope,
-                        tag,
-                        kid,
-                        tid,
-                    },
-                }
-            }
-        },
-    }
+    let FrontAt { caveats, scope } = token_front::read_front(s)?;
+    let BackAt { tag, kid, tid } = token_back::read_back(s, scope.to)?;
+    Ok(TokenAt {
+        caveats,
+        scope,
+        tag,
+        kid,
+        tid,
+    })
 }

@@ -8,7 +8,8 @@ use Rattle.basis.specs.Basis.{between}
 use Rattle.basis.specs.declared.Span.{Span}
 use Rattle.cbor_values.specs.declared.ListAt.{ListAt}
 use Rattle.token_cidr.specs.declared.Network.{Network}
-use Rattle.token_cidr.proofs.TextLaws.{prefix_of}
+use Rattle.token_cidr.specs.Prefixes.{Prefix}
+use Rattle.token_cidr.specs.Reading.{net_of}
 use Rattle.cbor_keys.specs.Maps.{texts}
 use Rattle.cbor_values.specs.Trees.{Value, encode}
 use Rattle.token_caveat.specs.Caveats.{Caveat, exp, nbf, aud, method, path_prefix, ip_cidr, bytes_le, rate, tenant, amnesia, gov_policy_digest, custom}
@@ -23,7 +24,7 @@ pub data Holds (s : List ℕ) : Caveat → CaveatAt → Type 0 where
   method_is : (ms : List (List ℕ)) (list : ListAt) → length ms ≡ list.count → drop list.span.from s ≡ texts ms ++ drop list.span.to s
       → Holds s (method ms) (Method list)
   path_is : (p : List ℕ) (part : Span) → between s part ≡ p → Holds s (path_prefix p) (PathPrefix part)
-  cidr_is : (network : Network) → Holds s (ip_cidr (prefix_of network)) (IpCidr network)
+  cidr_is : (p : Prefix) (network : Network) → net_of p ≡ network → Holds s (ip_cidr p) (IpCidr network)
   bytes_is : (n : ℕ) → Holds s (bytes_le n) (BytesLe n)
   rate_is : (per-s burst : ℕ) → Holds s (rate per-s burst) (Rate per-s burst)
   tenant_is : (t : List ℕ) (part : Span) → between s part ≡ t → Holds s (tenant t) (Tenant part)

@@ -4,6 +4,6 @@ pub mod ValuesRead
 pub mod CaveatLaws
 pub mod OneCaveat
 pub mod OneAnswer
+pub mod CaveatMap
 pub mod Inside
 pub mod DefectKinds
-pub mod CaveatMap

@@ -2,23 +2,20 @@
 use mathlib.Core.Path.{◌≡◌, refl, sym, ap, ap₂, subst, ◌∙◌}
 use mathlib.Core.List.{List, [], ◌++◌}
 use Prim.Native.Nat.{ℕ}
-use lib.ListN.{length, drop}
+use lib.ListN.{drop}
+use Rattle.basis.proofs.Pairs.{ok_pair}
 use Rattle.basis.proofs.Parts.{one_rest}
 use Rattle.cbor_values.specs.Trees.{Value, encode, Good}
 use Rattle.cbor_values.proofs.OneTree.{one_tree}
+use Rattle.token_cidr.proofs.TextLaws.{prefix_of}
 use Rattle.token_scope.proofs.MethodLaws.{methods_one}
-use Rattle.token_caveat.specs.Caveats.{Caveat, aud, method, path_prefix, tenant, gov_policy_digest, custom, encode_caveat, GoodCaveat}
+use Rattle.token_caveat.specs.Caveats.{Caveat, aud, method, path_prefix, ip_cidr, tenant, gov_policy_digest, custom, encode_caveat, GoodCaveat}
 use Rattle.token_caveat_values.specs.declared.CaveatAt.{CaveatAt}
-use Rattle.token_caveat_values.specs.declared.CaveatParts.{CaveatParts}
-use Rattle.token_caveat_values.specs.declared.CaveatParts.TheVariants.{Of}
 use Rattle.token_caveat.proofs.Holds.{Holds, exp_is, nbf_is, aud_is, method_is, path_is, cidr_is, bytes_is, rate_is, tenant_is, amnesia_is, digest_is, custom_is}
 use Rattle.token_caveat.proofs.CaveatLaws.{part_of, caveat_written}
 
 one_value : (v w : Value) → Good v 4 → Good w 4 → encode v ≡ encode w → v ≡ w
 one_value v w g h e = (one_tree v w 4 4 g h [] [] (ap (λ (t : List ℕ). t ++ []) e)).0
-
-same_part : {p q : CaveatAt} {n m : ℕ} → ◌≡◌ {A = CaveatParts} (Of p n) (Of q m) → q ≡ p
-same_part e = cc
 
 pub holds_one : (s : List ℕ) {x y : Caveat} {p : CaveatAt} → GoodCaveat x → GoodCaveat y → Holds s x p → Holds s y p → x ≡ y
 unfolding GoodCaveat
@@ -28,7 +25,7 @@ holds_one s gx gy (aud_is a p e) (aud_is b q d) = ap aud (sym e ∙ d)
 holds_one s gx gy (method_is ms p l e) (method_is ns q m d) =
     ap method (methods_one ms ns gx.each gy.each (l ∙ sym m) (drop p.span.to s) (drop p.span.to s) (sym e ∙ d))
 holds_one s gx gy (path_is a p e) (path_is b q d) = ap path_prefix (sym e ∙ d)
-holds_one s gx gy (cidr_is n) (cidr_is m) = refl
+holds_one s gx gy (cidr_is a n e) (cidr_is b m d) = ap (λ n. ip_cidr (prefix_of n)) (e ∙ sym d)
 holds_one s gx gy (bytes_is n) (bytes_is m) = refl
 holds_one s gx gy (rate_is n m) (rate_is i j) = refl
 holds_one s gx gy (tenant_is a p e) (tenant_is b q d) = ap tenant (sym e ∙ d)
@@ -42,6 +39,6 @@ caveat_one x y gx gy t u e =
     let s = encode_caveat x ++ t in
     let a = caveat_written x gx s t refl in
     let b = caveat_written y gy s u e in
-    let w : Of (part_of x) (length (encode_caveat x)) ≡ Of (part_of y) (length (encode_caveat y)) = sym a.answer ∙ b.answer in
-    let q = holds_one s gx gy a.holds (subst (Holds s y) (same_part w) b.holds) in
+    let w : part_of x ≡ part_of y = (ok_pair (sym a.answer ∙ b.answer)).0 in
+    let q = holds_one s gx gy a.holds (subst (Holds s y) (sym w) b.holds) in
     (q, one_rest (encode_caveat x) (encode_caveat y) t u (ap encode_caveat q) e)

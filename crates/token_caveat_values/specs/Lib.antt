@@ -1,4 +1,3 @@
 pub mod Values
 pub mod Maps
-pub mod Makes
 pub mod Fields

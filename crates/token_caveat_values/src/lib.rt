@@ -1,22 +1,18 @@
-// The values of caveats, a reader for each kind: number, text, digest, methods, address prefix, rate, flag and
-// custom value. A defect carries document 01's number and the place of the item at fault.
+// The values of caveats, a reader for each kind that is no plain number or text: digest, methods, address prefix,
+// rate, flag and custom value. A defect carries its kind and the place of the item at fault.
 #![tactic(auto)]
 
 ghost use Rattle.std.specs.Prelude.{◌≡◌};
-ghost use Rattle.cbor_strings.specs.declared.Class.{Class};
-ghost use Rattle.token_caveat_values.specs.Values.{number_value, text_value, digest_value};
-ghost use Rattle.token_caveat_values.specs.Values.{method_value, cidr_value, amnesia_value};
-ghost use Rattle.token_caveat_values.specs.Maps.{rate_value, ns_then, custom_value};
-ghost use Rattle.token_caveat_values.specs.Makes.{of_number, of_text};
+ghost use Rattle.token_caveat_values.specs.Values.{digest_value, method_value, cidr_value, amnesia_value};
+ghost use Rattle.token_caveat_values.specs.Maps.{rate_value, custom_value};
 
 use basis::{Span, limits};
-use cbor_heads::defect::CBOR;
-use cbor_heads::{Count, major};
+use cbor_heads::defect::{Defect, Kind, Reading};
+use cbor_heads::major;
 use cbor_keys::{Names, index};
-use cbor_strings::{Class, Content};
-use cbor_values::{Item, ListAt};
-use token_cidr::{Cidr, Network};
-use token_scope::MethodsParts;
+use cbor_strings::Class;
+use cbor_values::ListAt;
+use token_cidr::Network;
 
 // Where the parts of a custom caveat lie.
 #[derive(Clone, Copy)]
@@ -43,216 +39,78 @@ pub enum CaveatAt {
     Custom { custom: CustomAt },
 }
 
-// A caveat and its length, or what is wrong with it.
-#[derive(Clone, Copy)]
-pub enum CaveatParts {
-    Of { caveat: CaveatAt, next: usize },
-    Bad { kind: u32, at: usize },
-}
-
-// The caveats whose value is a number.
-#[derive(Clone, Copy)]
-pub enum NumberOf {
-    Exp,
-    Nbf,
-    BytesLe,
-}
-
-// The caveats whose value is a text.
-#[derive(Clone, Copy)]
-pub enum TextOf {
-    Aud,
-    PathPrefix,
-    Tenant,
-}
-
-fn of_number(which: NumberOf, n: u64) -> CaveatAt
-    ensures { result ≡ of_number which n }
-{
-    match which {
-        NumberOf::Exp => CaveatAt::Exp { n },
-        NumberOf::Nbf => CaveatAt::Nbf { n },
-        NumberOf::BytesLe => CaveatAt::BytesLe { n },
-    }
-}
-
-fn of_text(which: TextOf, span: Span) -> CaveatAt
-    ensures { result ≡ of_text which span }
-{
-    match which {
-        TextOf::Aud => CaveatAt::Aud { span },
-        TextOf::PathPrefix => CaveatAt::PathPrefix { span },
-        TextOf::Tenant => CaveatAt::Tenant { span },
-    }
-}
-
-pub fn number_value(s: &[u8], at: usize, which: NumberOf) -> CaveatParts
-    ensures { result ≡ number_value (of_number which) s.now at }
-{
-    match cbor_heads::number_up_to(s, at, limits::NUMBER_MOST) {
-        Count::Bad { kind, at: a } => CaveatParts::Bad { kind, at: a },
-        Count::Of { n, next } => {
-            let caveat = of_number(which, n);
-            CaveatParts::Of { caveat, next }
-        }
-    }
-}
-
-pub fn text_value(s: &[u8], at: usize, which: TextOf, class: Class, high: u64) -> CaveatParts
-    ensures { result ≡ text_value (of_text which) class high s.now at }
-{
-    match cbor_strings::read_string(s, at, class, 1, high) {
-        Content::Bad { kind, at: a } => CaveatParts::Bad { kind, at: a },
-        Content::Of { span } => {
-            let caveat = of_text(which, span);
-            CaveatParts::Of {
-                caveat,
-                next: span.to,
-            }
-        }
-    }
-}
-
 // A digest has no range of its own: a wrong length is a defect of form like any other.
-pub fn digest_value(s: &[u8], at: usize) -> CaveatParts
+#[tactic(auto, unfolding(crate::specs::Values::digest_value))]
+pub fn digest_value(s: &[u8], at: usize) -> Reading<(CaveatAt, usize)>
     ensures { result ≡ digest_value s.now at }
 {
-    match cbor_strings::read_string(
-        s,
-        at,
-        Class::Hex,
-        limits::DIGEST_LENGTH,
-        limits::DIGEST_LENGTH,
-    ) {
-        Content::Bad { kind: _, at: a } => CaveatParts::Bad { kind: CBOR, at: a },
-        Content::Of { span } => CaveatParts::Of {
-            caveat: CaveatAt::GovPolicyDigest { span },
-            next: span.to,
-        },
+    let length = limits::DIGEST_LENGTH;
+    match cbor_strings::read_string(s, at, Class::Hex, length, length) {
+        Ok(span) => Ok((CaveatAt::GovPolicyDigest { span }, span.to)),
+        Err(Defect { at, .. }) => Err(Defect {
+            kind: Kind::Cbor,
+            at,
+        }),
     }
 }
 
-pub fn method_value(s: &[u8], at: usize) -> CaveatParts
+#[tactic(auto, unfolding(crate::specs::Values::method_value))]
+pub fn method_value(s: &[u8], at: usize) -> Reading<(CaveatAt, usize)>
     ensures { result ≡ method_value s.now at }
 {
-    match token_scope::read_methods(s, at) {
-        MethodsParts::Bad { kind, at: a } => CaveatParts::Bad { kind, at: a },
-        MethodsParts::Of { methods } => CaveatParts::Of {
-            caveat: CaveatAt::Method { methods },
-            next: methods.span.to,
-        },
-    }
+    let methods = token_scope::read_methods(s, at)?;
+    Ok((CaveatAt::Method { methods }, methods.span.to))
 }
 
-pub fn cidr_value(s: &[u8], at: usize) -> CaveatParts
+#[tactic(auto, unfolding(crate::specs::Values::cidr_value))]
+pub fn cidr_value(s: &[u8], at: usize) -> Reading<(CaveatAt, usize)>
     ensures { result ≡ cidr_value s.now at }
 {
-    match cbor_strings::read_run(s, at, major::TEXT, 0, limits::NUMBER_MOST) {
-        Content::Bad { kind, at: a } => CaveatParts::Bad { kind, at: a },
-        Content::Of { span } => {
-            let from = span.from;
-            let to = span.to;
-            match token_cidr::read_cidr(&s[from..to]) {
-                Cidr::Bad => CaveatParts::Bad {
-                    kind: CBOR,
-                    at: from,
-                },
-                Cidr::Of { network } => CaveatParts::Of {
-                    caveat: CaveatAt::IpCidr { network },
-                    next: to,
-                },
-            }
-        }
-    }
+    let Span { from, to } = cbor_strings::read_run(s, at, major::TEXT, 0, limits::NUMBER_MOST)?;
+    let network = token_cidr::read_cidr(&s[from..to]).ok_or(Defect {
+        kind: Kind::Cbor,
+        at: from,
+    })?;
+    Ok((CaveatAt::IpCidr { network }, to))
 }
 
-pub fn rate_value(s: &[u8], at: usize) -> CaveatParts
+#[tactic(auto, unfolding(crate::specs::Maps::rate_value))]
+pub fn rate_value(s: &[u8], at: usize) -> Reading<(CaveatAt, usize)>
     ensures { result ≡ rate_value s.now at }
 {
-    match cbor_heads::map_with(s, at, 2, 2) {
-        Count::Bad { kind, at: a } => CaveatParts::Bad { kind, at: a },
-        Count::Of { n: _, next: p } => match cbor_keys::number_field(
-            s,
-            p,
-            Names::Rate,
-            index::RATE_BURST,
-            limits::RATE_MOST,
-        ) {
-            Count::Bad { kind, at: a } => CaveatParts::Bad { kind, at: a },
-            Count::Of { n: burst, next: q } => match cbor_keys::number_field(
-                s,
-                q,
-                Names::Rate,
-                index::RATE_PER_S,
-                limits::RATE_MOST,
-            ) {
-                Count::Bad { kind, at: a } => CaveatParts::Bad { kind, at: a },
-                Count::Of { n: per_s, next } => CaveatParts::Of {
-                    caveat: CaveatAt::Rate { per_s, burst },
-                    next,
-                },
-            },
-        },
-    }
+    let most = limits::RATE_MOST;
+    let (_, at) = cbor_heads::map_with(s, at, 2, 2)?;
+    let (burst, at) = cbor_keys::number_field(s, at, Names::Rate, index::RATE_BURST, most)?;
+    let (per_s, to) = cbor_keys::number_field(s, at, Names::Rate, index::RATE_PER_S, most)?;
+    Ok((CaveatAt::Rate { per_s, burst }, to))
 }
 
-pub fn amnesia_value(s: &[u8], at: usize) -> CaveatParts
+#[tactic(auto, unfolding(crate::specs::Values::amnesia_value))]
+pub fn amnesia_value(s: &[u8], at: usize) -> Reading<(CaveatAt, usize)>
     ensures { result ≡ amnesia_value s.now at }
 {
-    match cbor_heads::read_count(s, at, major::SIMPLE, major::FALSE, major::TRUE, CBOR) {
-        Count::Bad { kind, at: a } => CaveatParts::Bad { kind, at: a },
-        Count::Of { n, next } => CaveatParts::Of {
-            caveat: CaveatAt::Amnesia {
-                on: n == major::TRUE,
-            },
-            next,
-        },
-    }
+    let (n, to) = cbor_heads::read_count(
+        s,
+        at,
+        major::SIMPLE,
+        major::FALSE,
+        major::TRUE,
+        Kind::Cbor,
+    )?;
+    let on = n == major::TRUE;
+    Ok((CaveatAt::Amnesia { on }, to))
 }
 
-// Where ns lies at `ns`, and the key of the value follows.
-fn custom_then(s: &[u8], ns: Span) -> CaveatParts
-    ensures { result ≡ ns_then s.now ns }
-{
-    match cbor_keys::wanted_key(s, ns.to, Names::Custom, index::CUSTOM_CBOR) {
-        Item::Bad { kind, at: a } => CaveatParts::Bad { kind, at: a },
-        Item::End { next: from } => match cbor_values::read_value(s, from, limits::DEPTH_MOST) {
-            Item::Bad { kind, at: a } => CaveatParts::Bad { kind, at: a },
-            Item::End { next: to } => match cbor_keys::name_field(
-                s,
-                to,
-                Names::Custom,
-                index::CUSTOM_NAME,
-            ) {
-                Content::Bad { kind, at: a } => CaveatParts::Bad { kind, at: a },
-                Content::Of { span: name } => CaveatParts::Of {
-                    caveat: CaveatAt::Custom {
-                        custom: CustomAt {
-                            ns,
-                            value: Span { from, to },
-                            name,
-                        },
-                    },
-                    next: name.to,
-                },
-            },
-        },
-    }
-}
-
-pub fn custom_value(s: &[u8], at: usize) -> CaveatParts
+#[tactic(auto, unfolding(crate::specs::Maps::custom_value))]
+pub fn custom_value(s: &[u8], at: usize) -> Reading<(CaveatAt, usize)>
     ensures { result ≡ custom_value s.now at }
 {
-    match cbor_heads::map_with(s, at, 3, 3) {
-        Count::Bad { kind, at: a } => CaveatParts::Bad { kind, at: a },
-        Count::Of { n: _, next: p } => match cbor_keys::name_field(
-            s,
-            p,
-            Names::Custom,
-            index::CUSTOM_NS,
-        ) {
-            Content::Bad { kind, at: a } => CaveatParts::Bad { kind, at: a },
-            Content::Of { span: ns } => custom_then(s, ns),
-        },
-    }
+    let (_, at) = cbor_heads::map_with(s, at, 3, 3)?;
+    let ns = cbor_keys::name_field(s, at, Names::Custom, index::CUSTOM_NS)?;
+    let from = cbor_keys::wanted_key(s, ns.to, Names::Custom, index::CUSTOM_CBOR)?;
+    let to = cbor_values::read_value(s, from, limits::DEPTH_MOST)?;
+    let name = cbor_keys::name_field(s, to, Names::Custom, index::CUSTOM_NAME)?;
+    let value = Span { from, to };
+    let custom = CustomAt { ns, value, name };
+    Ok((CaveatAt::Custom { custom }, name.to))
 }

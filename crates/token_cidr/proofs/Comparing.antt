@@ -1,50 +1,46 @@
 -- The walk of first_bits_agree: what the bytes not yet compared decide is what all of them decide.
-use mathlib.Core.Path.{◌≡◌, refl}
-use mathlib.Core.Bool.{true, false}
-use mathlib.Core.List.{List}
-use Prim.Native.Nat.{ℕ, ◌+◌, ◌-◌, ◌/◌, ◌^◌, ◌≤◌, ◌<◌}
-use native.Mathlib.Numerals.{add-one}
-use native.Mathlib.Omega.{arith}
+use Rattle.std.proofs.Common.{◌≡◌, ℕ, ◌+◌, ◌-◌, ◌/◌, ◌^◌, ◌≤◌, ◌<◌, false, List, [], ◌∷◌, length, arith}
+use mathlib.Core.Path.{sym, ◌∙◌}
+use mathlib.Core.Logic.{◌⊎◌, inl, inr}
 use borrow.Author.Tests.{lt-ltb, le-ltb, eq-eqb, ne_eqb}
 use lib.Dec.{eqb}
-use lib.ListN.{length, drop, get_or, drop_of_length-le}
-use lib.Seq.{drop-cons}
 use Rattle.token_cidr.specs.Bits.{agree_of}
 
-pub record Compared (x y : List ℕ) (n i left : ℕ) : Type 0 where
-  pub in_x : i ≤ length x
-  pub in_y : i ≤ length y
-  pub rest : agree_of (drop i x) (drop i y) left ≡ agree_of x y n
+-- xs and ys are what is left of x and y
+pub record Compared (x y : List ℕ) (n : ℕ) (xs ys : List ℕ) (left : ℕ) : Type 0 where
+  pub rest : agree_of xs ys left ≡ agree_of x y n
+  pub even : length xs + length y ≡ length ys + length x
 
-pub compared_none : (x y : List ℕ) (n : ℕ) → Compared x y n 0 n
-compared_none x y n = record { in_x = omega arith; in_y = omega arith; rest = refl }
-
-module _ (x y : List ℕ) (n i left : ℕ) (t : Compared x y n i left) where
-  pub y_ends : i < length x → length y ≤ i → eqb left 0 ≡ agree_of x y n
+module _ {x y xs ys u v : List ℕ} {n left a b : ℕ} (t : Compared x y n xs ys left) (p : xs ≡ a ∷ u) (q : ys ≡ b ∷ v) where
+  pub last_byte : left < 8 → eqb (a / 2 ^ (8 - left)) (b / 2 ^ (8 - left)) ≡ agree_of x y n
   unfolding agree_of
-  y_ends h g = rw (drop-cons x i 0 h, drop_of_length-le y g) at t.rest
+  last_byte l = rw (p, q, lt-ltb _ _ l) at t.rest
 
-  pub x_ends : length x ≤ i → i < length y → eqb left 0 ≡ agree_of x y n
+  pub differs : 8 ≤ left → (a ≡ b → ⊥) → false ≡ agree_of x y n
   unfolding agree_of
-  x_ends h g = rw (drop_of_length-le x h, drop-cons y i 0 g) at t.rest
+  differs l d = rw (p, q, le-ltb _ _ l, ne_eqb _ _ d) at t.rest
 
-  pub both_end : length x ≤ i → length y ≤ i → true ≡ agree_of x y n
+  pub compared_one : 8 ≤ left → a ≡ b → Compared x y n u v (left - 8)
   unfolding agree_of
-  both_end h g = rw (drop_of_length-le x h, drop_of_length-le y g) at t.rest
+  compared_one l e = record {
+    rest = rw (p, q, le-ltb _ _ l, eq-eqb _ _ e) at t.rest;
+    even = omega (arith, rw (p, q) at t.even);
+  }
 
-  module _ (h : i < length x) (g : i < length y) where
-    pub last_byte : left < 8 → eqb (get_or x i 0 / 2 ^ (8 - left)) (get_or y i 0 / 2 ^ (8 - left)) ≡ agree_of x y n
-    unfolding agree_of
-    last_byte l = rw (drop-cons x i 0 h, drop-cons y i 0 g, lt-ltb _ _ l) at t.rest
+-- where one of them has ended, nothing was left to compare, or both have
+module _ {x y : List ℕ} {n : ℕ} where
+  pub none_left : (xs ys : List ℕ) {left : ℕ} → Compared x y n xs ys left → (xs ≡ []) ⊎ (ys ≡ []) → left ≡ 0 → eqb left 0 ≡ agree_of x y n
+  unfolding agree_of
+  none_left [] [] t o z = eq-eqb _ _ z ∙ t.rest
+  none_left [] (b ∷ ys) t o z = t.rest
+  none_left (a ∷ xs) [] t o z = t.rest
+  none_left (a ∷ xs) (b ∷ ys) t (inl e) z = cc
+  none_left (a ∷ xs) (b ∷ ys) t (inr e) z = cc
 
-    pub differs : 8 ≤ left → (get_or x i 0 ≡ get_or y i 0 → ⊥) → false ≡ agree_of x y n
-    unfolding agree_of
-    differs l d = rw (drop-cons x i 0 h, drop-cons y i 0 g, le-ltb _ _ l, ne_eqb _ _ d) at t.rest
-
-    pub compared_one : 8 ≤ left → get_or x i 0 ≡ get_or y i 0 → Compared x y n (i + 1) (left - 8)
-    unfolding agree_of
-    compared_one l e = record {
-      in_x = omega arith;
-      in_y = omega arith;
-      rest = rw add-one (rw (drop-cons x i 0 h, drop-cons y i 0 g, le-ltb _ _ l, eq-eqb _ _ e) at t.rest);
-    }
+  pub some_left : (xs ys : List ℕ) {left : ℕ} → Compared x y n xs ys left → (xs ≡ []) ⊎ (ys ≡ []) → (left ≡ 0 → ⊥) → eqb (length x) (length y) ≡ agree_of x y n
+  unfolding agree_of
+  some_left [] [] t o z = eq-eqb _ _ (omega (arith, t.even)) ∙ t.rest
+  some_left [] (b ∷ ys) t o z = ne_eqb _ _ (λ e. omega (arith, t.even)) ∙ sym (ne_eqb _ _ z) ∙ t.rest
+  some_left (a ∷ xs) [] t o z = ne_eqb _ _ (λ e. omega (arith, t.even)) ∙ sym (ne_eqb _ _ z) ∙ t.rest
+  some_left (a ∷ xs) (b ∷ ys) t (inl e) z = cc
+  some_left (a ∷ xs) (b ∷ ys) t (inr e) z = cc

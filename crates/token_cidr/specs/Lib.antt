@@ -1,4 +1,3 @@
 pub mod Bits
 pub mod Prefixes
 pub mod Reading
-pub mod Inner

@@ -2,18 +2,17 @@
 use mathlib.Core.Path.{◌≡◌}
 use mathlib.Core.List.{List, ◌++◌}
 use mathlib.Core.Option.{Option, some, none}
+use Rattle.std.specs.Prelude.{Option as Maybe, Some, None}
 use Prim.Native.Nat.{ℕ}
 use lib.ListN.{length, drop}
 use Rattle.basis.proofs.Held.{PartHeld}
 use Rattle.cbor_keys.specs.Maps.{texts}
 use Rattle.token_scope.specs.Scopes.{Scope}
 use Rattle.token_scope.specs.declared.ScopeAt.{ScopeAt}
-use Rattle.token_scope.specs.declared.Limit.{Limit}
-use Rattle.token_scope.specs.declared.Limit.TheVariants.{Absent as NoLimit, Of as AtMost}
 
-abbrev pub limit_of : Option ℕ → Limit
-limit_of none = NoLimit
-limit_of (some n) = AtMost n
+abbrev pub limit_of : Option ℕ → Maybe ℕ
+limit_of none = None
+limit_of (some n) = Some n
 
 -- the parts that a reading answers hold exactly the scope's
 pub record Holds (s : List ℕ) (x : Scope) (parts : ScopeAt) : Type 0 where

@@ -5,6 +5,6 @@ pub mod ScopeWritten
 pub mod ScopeRead
 pub mod OneScope
 pub mod Inside
-pub mod OneAnswer
 pub mod DefectKinds
+pub mod OneAnswer
 pub mod ScopeMap

@@ -1,4 +1,7 @@
 -- One scope for one encoding: what the parts hold settles the scope, and so does its encoding.
+use Rattle.std.specs.Prelude.{Ok}
+use Rattle.basis.proofs.Pairs.{ok_pair, some_same}
+use Rattle.cbor_heads.specs.Defects.{Reading}
 use mathlib.Core.Path.{◌≡◌, refl, sym, ap, ap₂, subst, ◌∙◌}
 use mathlib.Core.List.{List, ◌++◌}
 use mathlib.Core.Option.{Option, some, none}
@@ -9,8 +12,6 @@ use Rattle.basis.proofs.Parts.{one_rest}
 use Rattle.token_scope.specs.Scopes.{Scope, encode_scope, GoodScope}
 use Rattle.basis.proofs.Held.{part_held_one}
 use Rattle.token_scope.specs.declared.ScopeAt.{ScopeAt}
-use Rattle.token_scope.specs.declared.ScopeParts.{ScopeParts}
-use Rattle.token_scope.specs.declared.ScopeParts.TheVariants.{Of}
 use Rattle.token_scope.proofs.MethodLaws.{methods_one}
 use Rattle.token_scope.proofs.Holds.{limit_of, Holds}
 use Rattle.token_scope.proofs.ScopeWritten.{scope, scope_written}
@@ -19,13 +20,13 @@ limit_one : (o p : Option ℕ) → limit_of o ≡ limit_of p → o ≡ p
 limit_one none none e = refl
 limit_one none (some n) e = let z : ◌≡◌ {A = ℕ} 0 1 = cc in let z : ⊥ = omega arith in elim z [ ]
 limit_one (some n) none e = let z : ◌≡◌ {A = ℕ} 0 1 = cc in let z : ⊥ = omega arith in elim z [ ]
-limit_one (some n) (some m) e = let x : n ≡ m = cc in ap some x
+limit_one (some n) (some m) e = ap some (some_same e)
 
 -- the parts settle the scope
 module _ (s : List ℕ) (x y : Scope) (gx : GoodScope x) (gy : GoodScope y) {a b : ScopeAt} {n m : ℕ} where
-  pub holds_one : Holds s x a → Holds s y b → ◌≡◌ {A = ScopeParts} (Of a n) (Of b m) → x ≡ y
+  pub holds_one : Holds s x a → Holds s y b → ◌≡◌ {A = Reading (ScopeAt × ℕ)} (Ok (a, n)) (Ok (b, m)) → x ≡ y
   holds_one hx hy e =
-      let j : a ≡ b = cc in
+      let j = (ok_pair e).0 in
       let h = subst (Holds s x) j hx in
       let q = part_held_one s x.prefix y.prefix b.prefix h.prefix_held hy.prefix_held in
       let r =

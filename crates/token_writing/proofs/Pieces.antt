@@ -2,13 +2,22 @@
 -- token are such a row.
 use Prim.Native.Nat.{ℕ, ◌+◌, ◌≤◌}
 use mathlib.Core.List.{List, ◌++◌}
+use native.Mathlib.Omega.{arith}
 use lib.ListN.{length}
+use Rattle.basis.specs.Basis.{ascii}
+use Rattle.cbor_heads.specs.Heads.{head}
+use Rattle.cbor_strings.specs.Strings.{string}
+use Rattle.cbor_keys.specs.Maps.{text}
 use Rattle.cbor_writing.specs.Placing.{Placed}
 use Rattle.cbor_writing.proofs.PlacingLaws.{placed_fits, placed_then, shorter}
+use Rattle.token_writing.specs.Halves.{front_bytes, back_bytes}
 
-module _ (x1 x2 x3 x4 x5 x6 e : List ℕ) (at : ℕ) (h : at + length (x1 ++ x2 ++ x3 ++ x4 ++ x5 ++ x6) ≤ length e) where
+pub record Row (x1 x2 x3 x4 x5 x6 e : List ℕ) (at : ℕ) : Type 0 where
+  pub room : at + length (x1 ++ x2 ++ x3 ++ x4 ++ x5 ++ x6) ≤ length e
+
+module _ {x1 x2 x3 x4 x5 x6 e : List ℕ} {at : ℕ} (row : Row x1 x2 x3 x4 x5 x6 e at) where
   w5 : at + length (x1 ++ x2 ++ x3 ++ x4 ++ x5) ≤ length e
-  w5 = shorter (x1 ++ x2 ++ x3 ++ x4 ++ x5) x6 at (length e) h
+  w5 = shorter (x1 ++ x2 ++ x3 ++ x4 ++ x5) x6 at (length e) row.room
 
   w4 : at + length (x1 ++ x2 ++ x3 ++ x4) ≤ length e
   w4 = shorter (x1 ++ x2 ++ x3 ++ x4) x5 at (length e) w5
@@ -55,8 +64,20 @@ module _ (x1 x2 x3 x4 x5 x6 e : List ℕ) (at : ℕ) (h : at + length (x1 ++ x2 
             s5 = placed_then (x1 ++ x2 ++ x3 ++ x4) x5 e at w5 s4 a5
 
             pub fits6 : p5 + length x6 ≤ length m5
-            fits6 = placed_fits (x1 ++ x2 ++ x3 ++ x4 ++ x5) x6 e at h s5
+            fits6 = placed_fits (x1 ++ x2 ++ x3 ++ x4 ++ x5) x6 e at row.room s5
 
             module _ {p6 : ℕ} {m6 : List ℕ} (a6 : Placed x6 m5 p5 p6 m6) where
               pub all_placed : Placed (x1 ++ x2 ++ x3 ++ x4 ++ x5 ++ x6) e at p6 m6
-              all_placed = placed_then (x1 ++ x2 ++ x3 ++ x4 ++ x5) x6 e at h s5 a6
+              all_placed = placed_then (x1 ++ x2 ++ x3 ++ x4 ++ x5) x6 e at row.room s5 a6
+
+-- c and r
+pub front_row : (n : ℕ) {cs c r e : List ℕ} → length (front_bytes n cs c r) ≤ length e
+    → Row (head 5 6 ++ text (ascii "c")) (head 4 n) cs c (text (ascii "r")) r e 0
+unfolding front_bytes
+front_row n h = record { room = omega (arith, h) }
+
+-- s, v, kid and tid
+pub back_row : (tag kid tid : List ℕ) {e : List ℕ} {at : ℕ} → at + length (back_bytes tag kid tid) ≤ length e
+    → Row (text (ascii "s")) (string 2 tag) (text (ascii "v") ++ head 0 1 ++ text (ascii "kid")) (text kid) (text (ascii "tid")) (text tid) e at
+unfolding back_bytes
+back_row tag kid tid h = record { room = h }

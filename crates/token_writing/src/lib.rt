@@ -11,31 +11,35 @@ ghost use Rattle.token_writing.specs.Halves.{front_bytes, back_bytes, token_leng
 
 use cbor_heads::major;
 
-// The sum, or the largest number where it would wrap.
-fn sum(a: usize, b: usize) -> usize
-    ensures { result ≡ min (a + b) 0xffffffffffffffff }
-{
-    if 0xffff_ffff_ffff_ffff - b < a {
-        return 0xffff_ffff_ffff_ffff;
-    }
-    a + b
+// The bytes of a token's parts other than its caveats, as they are lent.
+#[derive(Clone, Copy)]
+pub struct Parts<'a> {
+    pub scope: &'a [u8],
+    pub tag: &'a [u8],
+    pub kid: &'a [u8],
+    pub tid: &'a [u8],
 }
 
-// How long a token with parts of these lengths is; 18 bytes are the same in every token.
-fn token_length(
-    count: u64,
-    caveats: usize,
-    scope: usize,
-    tag: usize,
-    kid: usize,
-    tid: usize,
-) -> usize
-    ensures { result ≡ min (token_length count caveats scope tag kid tid) 0xffffffffffffffff }
+// How long a token of these parts is, or the largest number where that would wrap; 18 bytes are the same in every one.
+#[tactic(auto, using(cbor_heads::proofs::HeadLengths::head_nine))]
+fn token_length(count: u64, caveats: usize, parts: Parts) -> usize
+    ensures { result ≡ min (token_length count caveats parts.entry) 0xffffffffffffffff }
 {
-    let heads = cbor_writing::head_length(count) + cbor_writing::head_length(tag as u64);
-    let names = cbor_writing::head_length(kid as u64) + cbor_writing::head_length(tid as u64);
-    let n = sum(18 + heads + names, caveats);
-    sum(sum(sum(sum(n, scope), tag), kid), tid)
+    let Parts {
+        scope,
+        tag,
+        kid,
+        tid,
+    } = parts;
+    let heads = cbor_writing::head_length(count) + cbor_writing::head_length(tag.len() as u64);
+    let names = cbor_writing::head_length(kid.len() as u64)
+        + cbor_writing::head_length(tid.len() as u64);
+    (18 + heads + names)
+        .saturating_add(caveats)
+        .saturating_add(scope.len())
+        .saturating_add(tag.len())
+        .saturating_add(kid.len())
+        .saturating_add(tid.len())
 }
 
 // c and r.
@@ -65,29 +69,28 @@ fn put_back(room: &mut [u8], at: usize, tag: &[u8], kid: &[u8], tid: &[u8]) -> u
 }
 
 // A token around its parts, with `count` caveats: those of `caveats`, and behind them `caveat`. It answers
-// how many bytes were written; 0, where the room is too short, is no token's length.
+// how many bytes were written; none are where the room is too short.
 pub fn write_token(
     count: u64,
     caveats: &[u8],
     caveat: &[u8],
-    scope: &[u8],
-    tag: &[u8],
-    kid: &[u8],
-    tid: &[u8],
+    parts: Parts,
     room: &mut [u8],
-) -> usize
-    ensures { Written (token_bytes count (caveats.now ++ caveat.now) scope.now tag.now kid.now tid.now) room.old result room.new }
+) -> Option<usize>
+    ensures { Written (token_bytes count (caveats.now ++ caveat.now) parts.entry.scope.now
+        parts.entry.tag.now parts.entry.kid.now parts.entry.tid.now) room.old result room.new }
 {
-    let all = sum(caveats.len(), caveat.len());
-    if room.len() < token_length(count, all, scope.len(), tag.len(), kid.len(), tid.len()) {
-        return 0;
+    let all = caveats.len().saturating_add(caveat.len());
+    if room.len() < token_length(count, all, parts) {
+        return None;
     }
-    let p = put_front(room, count, caveats, caveat, scope);
-    put_back(room, p, tag, kid, tid)
+    let p = put_front(room, count, caveats, caveat, parts.scope);
+    Some(put_back(room, p, parts.tag, parts.kid, parts.tid))
 }
 
-pub fn write_fresh(scope: &[u8], tag: &[u8], kid: &[u8], tid: &[u8], room: &mut [u8]) -> usize
-    ensures { Written (fresh_bytes scope.now tag.now kid.now tid.now) room.old result room.new }
+pub fn write_fresh(parts: Parts, room: &mut [u8]) -> Option<usize>
+    ensures { Written (fresh_bytes parts.entry.scope.now parts.entry.tag.now parts.entry.kid.now parts.entry.tid.now)
+        room.old result room.new }
 {
-    write_token(0, b"", b"", scope, tag, kid, tid, room)
+    write_token(0, b"", b"", parts, room)
 }

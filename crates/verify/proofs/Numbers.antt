@@ -1,4 +1,7 @@
 -- Verify's number is one of those from 0 to 21, for every table, request and token.
+use Rattle.std.specs.Prelude.{Option, Some, None, Result, Ok, Err}
+use Rattle.cbor_heads.specs.Defects.{Reading, kind_number}
+use Rattle.token_scope.specs.declared.ScopeAt.{ScopeAt}
 use mathlib.Core.Path.{◌≡◌, refl}
 use mathlib.Core.List.{List}
 use Prim.Native.Nat.{ℕ, zero, suc, ◌+◌, ◌<◌}
@@ -9,36 +12,30 @@ use Rattle.basis.specs.Basis.{between}
 use Rattle.basis.specs.Same.{same_of}
 use Rattle.basis.proofs.Picks.{either}
 use Rattle.text_reading.specs.Reading.{judged_of, bytes_of, decoded_of}
-use Rattle.text_reading.specs.declared.Decoded.{Decoded}
-use Rattle.text_reading.specs.declared.Decoded.TheVariants.{Bytes, Bad as NoText, Short}
-use Rattle.token_scope.specs.Reading.{scope_of, after_scope}
-use Rattle.token_scope.specs.declared.ScopeParts.{ScopeParts}
-use Rattle.token_scope.specs.declared.ScopeParts.TheVariants.{Of as ScopeIs, Bad as NoScope}
-use Rattle.token_scope.proofs.DefectKinds.{ScopeKind, scope_kinds}
+use Rattle.text_reading.specs.declared.Undecoded.{Undecoded}
+use Rattle.text_reading.specs.declared.Undecoded.TheVariants.{Bad as NoText, Short}
+use Rattle.token_scope.specs.Reading.{scope_of}
 use Rattle.token_caveat.specs.Reading.{caveat_of}
 use Rattle.token_caveat_values.specs.declared.CaveatAt.{CaveatAt}
 use Rattle.token_caveat_values.specs.declared.CaveatAt.TheVariants.{Exp, Nbf, Aud, Method, PathPrefix, IpCidr, BytesLe, Rate, Tenant, Amnesia, GovPolicyDigest, Custom}
-use Rattle.token_caveat_values.specs.declared.CaveatParts.{CaveatParts}
-use Rattle.token_caveat_values.specs.declared.CaveatParts.TheVariants.{Of as CaveatIs, Bad as NoCaveat}
-use Rattle.token_caveat.proofs.DefectKinds.{CaveatKind, caveat_kinds}
 use Rattle.token.specs.Reading.{token_of}
-use Rattle.token.specs.declared.TokenParts.{TokenParts}
-use Rattle.token.specs.declared.TokenParts.TheVariants.{Of as TokenIs, Bad as NoToken}
-use Rattle.token.proofs.DefectKinds.{token_kind}
+use Rattle.cbor_heads.specs.declared.defect.Kind.{Kind}
+use Rattle.cbor_heads.proofs.DefectKinds.{numbered}
 use Rattle.records_table.specs.Reading.{table_ok}
 use Rattle.records_request.specs.Reading.{request_of}
-use Rattle.records_request.specs.declared.RequestParts.{RequestParts}
-use Rattle.records_request.specs.declared.RequestParts.TheVariants.{Of as RequestIs, Bad as NoRequest}
 use Rattle.rules_compare.specs.Comparing.{member_in, prefix_fits, limit_holds}
 use Rattle.rules.specs.Judging.{scope_judged, caveat_held, failing_of, caveat_judged}
 use Rattle.records_request.specs.declared.RequestAt.{RequestAt}
-use Rattle.verify_walk.specs.Walking.{so_far, after_caveat, over_then, over_caveats, walk_bad, walk_add, walked_of, scope_kind, scope_then, scope_answered, tenant_judged, link_first, key_judged}
-use Rattle.verify_walk.specs.declared.Walked.{Walked}
+use Rattle.verify_walk.specs.Walking.{so_far, over_then, after_caveat, over_caveats, walk_bad, walk_add, walked_of, scope_then, scope_answered, tenant_judged, link_first, key_judged}
+use Rattle.verify_walk.specs.Walking.{Walked}
 use Rattle.verify.specs.Verifying.{key_found, key_of, token_judged, bytes_judged, decoded_judged, text_judged, request_judged, verify_of}
 use Rattle.token.specs.declared.TokenAt.{TokenAt}
 
 abbrev Low : ℕ → Type 0
 Low n = n < 22
+
+kind_low : (kind : Kind) → Low (kind_number kind)
+kind_low kind = omega (arith, (numbered kind).1)
 
 so_far_low : (a b : ℕ) → Low a → Low b → Low (so_far a b)
 unfolding so_far
@@ -67,25 +64,25 @@ walked_low : (k : ℕ) (s key body : List ℕ) (q : RequestAt) (tid : List ℕ) 
     → Low (over_caveats walk_bad (walk_add key body q tid) k s at found).answer
 unfolding over_caveats after_caveat
 walked_low zero s key body q tid at found h = h
-walked_low (suc k) s key body q tid at found h = by (caveat_of (drop at s)) (caveat_kinds (drop at s)) (walked_low k s key body q tid)
+walked_low (suc k) s key body q tid at found h = by (caveat_of (drop at s)) (walked_low k s key body q tid)
   where
     walked : ℕ → Walked → Walked
     walked = over_caveats walk_bad (walk_add key body q tid) k s
 
-    by : (c : CaveatParts) → CaveatKind c → ((p : ℕ) (w : Walked) → Low w.answer → Low (walked p w).answer)
+    by : (c : Reading (CaveatAt × ℕ)) → ((p : ℕ) (w : Walked) → Low w.answer → Low (walked p w).answer)
         → Low (after_caveat (walk_bad found) (over_then walked (walk_add key body q tid) (drop at s) at found) c).answer
-    by (NoCaveat kind a) g r = omega (arith, g.1)
-    by (CaveatIs c next) g r =
+    by (Err d) r = kind_low d.kind
+    by (Ok (c, next)) r =
         r (at + next) (walk_add key body q tid found (drop at s) c next)
         (so_far_low found.answer (caveat_judged (drop at s) c body q tid) h (caveat_low (drop at s) c body q tid))
 
 scope_low : (s : List ℕ) (at : ℕ) (body : List ℕ) (q : RequestAt) → Low (scope_answered s at body q)
-unfolding scope_answered scope_judged
-scope_low s at body q = by (scope_of s at) (scope_kinds s at)
+unfolding scope_then scope_judged
+scope_low s at body q = by (scope_of s at)
   where
-    by : (p : ScopeParts) → ScopeKind p → Low (after_scope scope_kind (scope_then s body q) p)
-    by (NoScope kind a) g = omega (arith, g.1)
-    by (ScopeIs scope next) g =
+    by : (p : Reading (ScopeAt × ℕ)) → Low (scope_then s body q p)
+    by (Err d) = kind_low d.kind
+    by (Ok (scope, next)) =
         either Low (member_in s scope.methods (between body q.method))
         (either Low (prefix_fits s scope.prefix (between body q.path)) (either Low {x = 0} {y = 12} (limit_holds scope.max_bytes q.size) (omega arith) (omega arith)) (omega arith)) (omega arith)
 
@@ -104,9 +101,9 @@ bytes_low : (table s body : List ℕ) (q : RequestAt) → Low (bytes_judged tabl
 unfolding bytes_judged token_judged key_found
 bytes_low table s body q = by (token_of s) refl
   where
-    by : (p : TokenParts) → token_of s ≡ p → Low (token_judged table s body q p)
-    by (NoToken kind a) e = omega (arith, (token_kind s e).1)
-    by (TokenIs p) e =
+    by : (p : Reading TokenAt) → token_of s ≡ p → Low (token_judged table s body q p)
+    by (Err d) e = kind_low d.kind
+    by (Ok p) e =
         let key = key_of table s p in
         either Low {x = key_judged key s p body q} {y = 7} (eqb (length key) 32) (key_low key s p body q) (omega arith)
 
@@ -115,16 +112,16 @@ unfolding text_judged decoded_judged
 text_low table text body q =
     either Low {x = 5} {y = decoded_judged table text body q (decoded_of (judged_of text) 4096)} (ltb 5462 (length text)) (omega arith) (by (decoded_of (judged_of text) 4096))
   where
-    by : (d : Decoded) → Low (decoded_judged table text body q d)
-    by (NoText a) = omega arith
-    by Short = omega arith
-    by (Bytes n) = bytes_low table (bytes_of text) body q
+    by : (d : Result ℕ Undecoded) → Low (decoded_judged table text body q d)
+    by (Err (NoText a)) = omega arith
+    by (Err Short) = omega arith
+    by (Ok n) = bytes_low table (bytes_of text) body q
 
 pub verify_low : (table request token : List ℕ) → verify_of table request token < 22
 unfolding verify_of request_judged
 verify_low table request token =
     either Low {x = request_judged table request token (request_of request)} {y = 1} (table_ok table) (by (request_of request)) (omega arith)
   where
-    by : (r : RequestParts) → Low (request_judged table request token r)
-    by NoRequest = omega arith
-    by (RequestIs q) = text_low table token request q
+    by : (r : Option RequestAt) → Low (request_judged table request token r)
+    by None = omega arith
+    by (Some q) = text_low table token request q

@@ -2,8 +2,11 @@
 use mathlib.Core.Path.{◌≡◌}
 use mathlib.Core.List.{List}
 use Prim.Native.Nat.{ℕ}
+use Rattle.answers.specs.declared.Answer.{Answer}
+use Rattle.answers.specs.Answers.{number_of}
+use Rattle.answers.proofs.Distinct.{numbers_differ}
 use Rattle.basis.proofs.OneAnswer.{told}
 use Rattle.verify.specs.Verifying.{verify_of}
 
-pub verify_one_answer : (table request token : List ℕ) {n m : ℕ} → n ≡ verify_of table request token → m ≡ verify_of table request token → n ≡ m
-verify_one_answer table request token x y = told x y
+pub verify_one_answer : (table request token : List ℕ) {r s : Answer} → number_of r ≡ verify_of table request token → number_of s ≡ verify_of table request token → r ≡ s
+verify_one_answer table request token x y = numbers_differ _ _ (told x y)

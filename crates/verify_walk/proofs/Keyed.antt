@@ -13,7 +13,7 @@ use Rattle.records_request.specs.declared.RequestAt.{RequestAt}
 use Rattle.token.specs.declared.TokenAt.{TokenAt}
 use Rattle.verify_walk.specs.Walking.{so_far, walked_of, scope_answered, tenant_judged, tag_judged, link_first, key_judged}
 use Rattle.verify_walk.specs.Ready.{Ready}
-use Rattle.verify_walk.specs.declared.Walked.{Walked}
+use Rattle.verify_walk.specs.Walking.{Walked}
 
 pub first_ready : (key s : List ℕ) (p : TokenAt) {tid kid scope : List ℕ} → Ready key s p → tid ≡ between s p.tid → kid ≡ between s p.kid → scope ≡ between s p.scope
     → FirstOf key tid kid scope

@@ -1,24 +1,23 @@
 -- Reading. Need not be believed: the demands' theorems fix it. A token with its key, check by check. Document 01, "Numbers and names":
 -- "Verify: .. 8, 9, scope method, path, bytes (10 to 12), caveats in token order."
-use Rattle.std.specs.Prelude.{List, ℕ, zero, suc, ◌+◌, eqb, drop}
+use Rattle.std.specs.Prelude.{List, ℕ, zero, suc, ◌+◌, eqb, drop, Ok, Err}
 use Rattle.basis.specs.Basis.{pick, from_to, between}
+use Rattle.cbor_heads.specs.Defects.{Reading, kind_number}
 use Rattle.basis.specs.Same.{same_of}
 use Rattle.cbor_values.specs.declared.ListAt.{ListAt}
 use Rattle.hash_chain.specs.Chain.{first_link, next_link}
-use Rattle.token_scope.specs.Reading.{scope_of, after_scope}
+use Rattle.token_scope.specs.Reading.{scope_of}
 use Rattle.token_scope.specs.declared.ScopeAt.{ScopeAt}
 use Rattle.token_caveat.specs.Reading.{caveat_of}
 use Rattle.token_caveat_values.specs.declared.CaveatAt.{CaveatAt}
-use Rattle.token_caveat_values.specs.declared.CaveatParts.{CaveatParts}
-use Rattle.token_caveat_values.specs.declared.CaveatParts.TheVariants.{Of as CaveatFound, Bad as NoCaveat}
 use Rattle.token.specs.declared.TokenAt.{TokenAt}
 use Rattle.records_request.specs.declared.RequestAt.{RequestAt}
 use Rattle.rules.specs.Judging.{scope_judged, caveat_judged}
-use Rattle.verify_walk.specs.declared.Walked.{Walked}
 
-unfoldable pub after_caveat : {A : Type 0} → (ℕ → A) → (CaveatAt → ℕ → A) → CaveatParts → A
-after_caveat bad rest (NoCaveat kind at) = bad kind
-after_caveat bad rest (CaveatFound caveat next) = rest caveat next
+-- what was found behind a caveat, or what a defect, told by its number, makes of it
+unfoldable pub after_caveat : {A : Type 0} → (ℕ → A) → (CaveatAt → ℕ → A) → Reading (CaveatAt × ℕ) → A
+after_caveat bad rest (Err d) = bad (kind_number d.kind)
+after_caveat bad rest (Ok (caveat, next)) = rest caveat next
 
 -- "Each caveat is read and hashed where it lies": a walk over so many from a place on. `add` says what each of them adds to what was found
 -- before it, `part` being the token from the caveat's first byte on; `bad`, what a defect makes of it
@@ -44,6 +43,11 @@ links_of s caveats key first = over_caveats link_stays (link_add key) caveats.co
 unfoldable pub so_far : ℕ → ℕ → ℕ
 so_far answer next = pick (eqb answer 0) next answer
 
+-- the last link, and the answer of the first caveat that fails
+pub record Walked : Type 0 where
+  pub link : List ℕ
+  pub answer : ℕ
+
 -- and to the judgement: its own answer, if all before it were 0
 abbrev pub walk_ends : List ℕ → ℕ → Walked
 walk_ends link answer = record { link = link; answer = answer }
@@ -59,14 +63,12 @@ abbrev pub walked_of : List ℕ → ListAt → List ℕ → List ℕ → Request
 walked_of s caveats key body q tid first = over_caveats walk_bad (walk_add key body q tid) caveats.count s caveats.span.from (walk_ends first 0)
 
 -- the scope that begins at a place
-abbrev pub scope_kind : ℕ → ℕ → ℕ
-scope_kind kind at = kind
+unfoldable pub scope_then : List ℕ → List ℕ → RequestAt → Reading (ScopeAt × ℕ) → ℕ
+scope_then s body q (Err d) = kind_number d.kind
+scope_then s body q (Ok (scope, next)) = scope_judged s scope body q
 
-abbrev pub scope_then : List ℕ → List ℕ → RequestAt → ScopeAt → ℕ → ℕ
-scope_then s body q scope next = scope_judged s scope body q
-
-unfoldable pub scope_answered : List ℕ → ℕ → List ℕ → RequestAt → ℕ
-scope_answered s at body q = after_scope scope_kind (scope_then s body q) (scope_of s at)
+abbrev pub scope_answered : List ℕ → ℕ → List ℕ → RequestAt → ℕ
+scope_answered s at body q = scope_then s body q (scope_of s at)
 
 -- 9, then the scope, then the caveats
 unfoldable pub tenant_judged : List ℕ → List ℕ → ℕ → ℕ → ℕ

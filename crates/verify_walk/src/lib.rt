@@ -7,22 +7,23 @@ ghost use Rattle.basis.specs.Basis.{from_to, between};
 ghost use Rattle.basis.specs.Same.{same_of};
 ghost use Rattle.hash_chain.specs.Chain.{next_link};
 ghost use Rattle.hash_chain.specs.Inner.{NextOf};
+ghost use Rattle.answers.specs.Answers.{number_of};
 ghost use Rattle.rules.specs.Judging.{caveat_judged};
-ghost use Rattle.verify_walk.specs.Walking.{links_of, so_far, walked_of, scope_answered, link_first, key_judged};
+ghost use Rattle.verify_walk.specs.Walking.{links_of, so_far, walk_ends, walked_of, scope_answered, link_first, key_judged};
 ghost use Rattle.verify_walk.specs.Ready.{Walkable, Ready};
 
+use answers::Answer;
 use basis::Span;
 use cbor_values::ListAt;
 use records_request::RequestAt;
 use token::TokenAt;
-use token_caveat_values::{CaveatAt, CaveatParts};
-use token_scope::ScopeParts;
+use token_caveat_values::CaveatAt;
 
 // The last link, and the answer of the first caveat that fails.
 #[derive(Clone, Copy)]
-pub struct Walked {
-    pub link: [u8; 32],
-    pub answer: u32,
+struct Walked {
+    link: [u8; 32],
+    answer: Answer,
 }
 
 // A caveat is hashed as it lies, from its first byte on: no code writes it anew.
@@ -39,39 +40,33 @@ pub fn links(s: &[u8], caveats: ListAt, key: &[u8], first: [u8; 32]) -> [u8; 32]
     requires { Walkable key.now s.now }
     ensures { result ≡ links_of s.now caveats key.now first }
 {
-    let mut p = basis::least(caveats.span.from, s.len());
-    let mut k = caveats.count;
+    let mut p = caveats.span.from.min(s.len());
     let mut link = first;
-    while 0 < k {
+    for _ in 0..caveats.count {
         let part = &s[p..];
-        match token_caveat::read_caveat(part) {
-            CaveatParts::Bad { kind: _, at: _ } => {
-                return link;
-            }
-            CaveatParts::Of { caveat: _, next } => {
-                let joined = link_over(key, link, part, next);
-                link = joined;
-                p += next;
-            }
-        }
-        k -= 1;
+        let Ok((_, next)) = token_caveat::read_caveat(part) else {
+            return link;
+        };
+        let joined = link_over(key, link, part, next);
+        link = joined;
+        p += next;
     }
     link
 }
 
-// The first answer that is not 0 stays; no later caveat is judged.
-#[tactic(auto, unfolding(crate::specs::Walking::so_far))]
+// The first answer that is not allow stays; no later caveat is judged.
+#[tactic(auto, unfolding(crate::specs::Walking::so_far), using(answers::proofs::Distinct::numbers_differ))]
 fn so_far(
-    answer: u32,
+    answer: Answer,
     part: &[u8],
     caveat: CaveatAt,
     body: &[u8],
     request: RequestAt,
     tid: &[u8],
-) -> u32
-    ensures { result ≡ so_far answer (caveat_judged part.now caveat body.now request tid.now) }
+) -> Answer
+    ensures { number_of result ≡ so_far (number_of answer) (caveat_judged part.now caveat body.now request tid.now) }
 {
-    if answer == 0 {
+    if answer == Answer::Allow {
         return rules::caveat_answer(part, caveat, body, request, tid);
     }
     answer
@@ -88,36 +83,36 @@ fn walk(
     tid: &[u8],
 ) -> Walked
     requires { Walkable key.now s.now }
-    ensures { result ≡ walked_of s.now caveats key.now body.now request tid.now first }
+    ensures { walk_ends result.link (number_of result.answer) ≡ walked_of s.now caveats key.now body.now request tid.now first }
 {
-    let mut p = basis::least(caveats.span.from, s.len());
-    let mut left = caveats.count;
+    let mut p = caveats.span.from.min(s.len());
     let mut link = first;
-    let mut answer: u32 = 0;
-    while 0 < left {
+    let mut answer = Answer::Allow;
+    for _ in 0..caveats.count {
         let part = &s[p..];
         match token_caveat::read_caveat(part) {
-            CaveatParts::Bad { kind, at: _ } => {
-                return Walked { link, answer: kind };
+            Err(defect) => {
+                let answer = defect.into();
+                return Walked { link, answer };
             }
-            CaveatParts::Of { caveat, next } => {
+            Ok((caveat, next)) => {
                 let joined = link_over(key, link, part, next);
                 link = joined;
                 answer = so_far(answer, part, caveat, body, request, tid);
                 p += next;
             }
         }
-        left -= 1;
     }
     Walked { link, answer }
 }
 
-fn scope_answered(s: &[u8], at: usize, body: &[u8], request: RequestAt) -> u32
-    ensures { result ≡ scope_answered s.now at body.now request }
+#[tactic(auto, unfolding(crate::specs::Walking::scope_then))]
+fn scope_answered(s: &[u8], at: usize, body: &[u8], request: RequestAt) -> Answer
+    ensures { number_of result ≡ scope_answered s.now at body.now request }
 {
     match token_scope::read_scope(s, at) {
-        ScopeParts::Bad { kind, at: _ } => kind,
-        ScopeParts::Of { scope, next: _ } => rules::scope_answer(s, scope, body, request),
+        Err(defect) => defect.into(),
+        Ok((scope, _)) => rules::scope_answer(s, scope, body, request),
     }
 }
 
@@ -129,12 +124,10 @@ pub fn same_tag(link: [u8; 32], tag: &[u8]) -> bool
         return false;
     }
     let mut same = true;
-    let mut i: usize = 0;
-    while i < 32 {
+    for i in 0..32 {
         if link[i] != tag[i] {
             same = false;
         }
-        i += 1;
     }
     same
 }
@@ -157,9 +150,9 @@ pub fn link_first(key: &[u8], s: &[u8], token: TokenAt) -> [u8; 32]
 
 // With the key: the tag over all its bytes, the tenant, the scope, the caveats.
 #[tactic(auto, using(crate::proofs::Keyed::scope_holds, crate::proofs::Keyed::scope_fails, crate::proofs::Keyed::other_tenant, crate::proofs::Keyed::other_tag))]
-pub fn with_key(key: &[u8], s: &[u8], token: TokenAt, body: &[u8], request: RequestAt) -> u32
+pub fn with_key(key: &[u8], s: &[u8], token: TokenAt, body: &[u8], request: RequestAt) -> Answer
     requires { Ready key.now s.now token }
-    ensures { result ≡ key_judged key.now s.now token body.now request }
+    ensures { number_of result ≡ key_judged key.now s.now token body.now request }
 {
     let caveats = token.caveats;
     let tag = token.tag;
@@ -169,15 +162,15 @@ pub fn with_key(key: &[u8], s: &[u8], token: TokenAt, body: &[u8], request: Requ
     let first = link_first(key, s, token);
     let walked = walk(s, caveats, key, first, body, request, tid);
     let link = walked.link;
-    if same_tag(link, basis::lend(s, tag)) {
-        if basis::same(tid, basis::lend(body, asker)) {
-            let scope = scope_answered(s, token.scope.from, body, request);
-            if scope == 0 {
-                return walked.answer;
-            }
-            return scope;
-        }
-        return 9;
+    if !same_tag(link, basis::lend(s, tag)) {
+        return Answer::MacMismatch;
     }
-    8
+    if tid != basis::lend(body, asker) {
+        return Answer::TenantMismatch;
+    }
+    let scope = scope_answered(s, token.scope.from, body, request);
+    if scope != Answer::Allow {
+        return scope;
+    }
+    walked.answer
 }

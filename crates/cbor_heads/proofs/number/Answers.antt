@@ -10,20 +10,20 @@ use Rattle.cbor_heads.proofs.Numbers.{more, most}
 use Rattle.cbor_heads.proofs.number.Goals as goal
 
 pub overflow_mul-v : goal.overflow_mul-v
-overflow_mul-v c = omega (arith, most c.loop-i.i (omega arith), more c.loop-i.i {b = 0} c.loop-i.invariant.1 (omega arith))
+overflow_mul-v c = omega (arith, most c.loop-b.b-index (omega arith), more c.loop-b.b-index {b = 0} c.loop-b.invariant.1 (omega arith))
 
-pub loop-i-preserved : goal.loop-i-preserved
+pub loop-b-preserved : goal.loop-b-preserved
 unfolding number_from
-loop-i-preserved c = let i = c.loop-i.i in
+loop-b-preserved c = let i = c.loop-b.b-index in
     let s = c.args.s.now in
     let h : i < length s = omega arith in (
       search rules,
-      more i c.loop-i.invariant.1 (c.type_inv.s i).fits,
-      rw (add-one, ← c.loop-i.invariant.2, drop-cons s i 0),
+      rw c.from.ensures (more i c.loop-b.invariant.1 (c.type_inv.s i).fits),
+      rw (c.from.ensures, add-one, ← c.loop-b.invariant.2, drop-cons s i 0),
     )
 
 pub returns : goal.returns
 unfolding number_from
 returns c =
-    let h : length c.args.s.now ≤ c.loop-i.i = omega arith in
-    rw (drop_of_length-le c.args.s.now) at c.loop-i.invariant.2
+    let h : length c.args.s.now ≤ c.loop-b.b-index = omega arith in
+    rw (drop_of_length-le c.args.s.now) at c.loop-b.invariant.2

@@ -14,31 +14,31 @@ returns-then-s-at c = at_end _ _ c.if-s-at.true
 pub returns-then-s-from : goal.returns-then-s-from
 returns-then-s-from c = at_short _ _ c.if-s-at.false (sym c.width_of.ensures ∙ c.in-Follow.is) c.if-s-from.true
 
-pub number-v-requires : goal.number-v-requires
-number-v-requires c = let h = follow_le _ (sym c.width_of.ensures ∙ c.in-Follow.is) in
+pub number-value-requires : goal.number-value-requires
+number-value-requires c = let h = follow_le _ (sym c.width_of.ensures ∙ c.in-Follow.is) in
     simp length-take (omega arith)
 
-pub returns-then-v-least : goal.returns-then-v-least
-returns-then-v-least c = let s = c.args.s.now in
+pub returns-then-value-least : goal.returns-then-value-least
+returns-then-value-least c = let s = c.args.s.now in
     let from = c.args.at + 1 in
     let n = c.in-Follow.n in
     let e : from + n - from ≡ n = omega arith in
-    let v = c.number-v.ensures ∙ ap (λ (k : ℕ). big_of (take k (drop from s))) e in
+    let v = c.number-value.ensures ∙ ap (λ (k : ℕ). big_of (take k (drop from s))) e in
     at_small _ _ c.if-s-at.false (sym c.width_of.ensures ∙ c.in-Follow.is)
-    c.if-s-from.false (rw v at c.if-v-least.true)
+    c.if-s-from.false (rw v at c.if-value-least.true)
 
 pub returns-in-Here : goal.returns-in-Here
-returns-in-Here c = at_here _ _ c.if-s-at.false (sym c.width_of.ensures ∙ c.in-Here.is)
+returns-in-Here c = rw c.from.ensures (at_here _ _ c.if-s-at.false (sym c.width_of.ensures ∙ c.in-Here.is))
 
 pub returns-in-Refused : goal.returns-in-Refused
 returns-in-Refused c = at_refused _ _ c.if-s-at.false (sym c.width_of.ensures ∙ c.in-Refused.is)
 
-pub returns-else-v-least : goal.returns-else-v-least
-returns-else-v-least c = let s = c.args.s.now in
+pub returns-else-value-least : goal.returns-else-value-least
+returns-else-value-least c = let s = c.args.s.now in
     let from = c.args.at + 1 in
     let n = c.in-Follow.n in
     let e : from + n - from ≡ n = omega arith in
-    let v = c.number-v.ensures ∙ ap (λ (k : ℕ). big_of (take k (drop from s))) e in
+    let v = c.number-value.ensures ∙ ap (λ (k : ℕ). big_of (take k (drop from s))) e in
     rw v
     (at_value _ _ c.if-s-at.false (sym c.width_of.ensures ∙ c.in-Follow.is)
-    c.if-s-from.false (rw v at c.if-v-least.false))
+    c.if-s-from.false (rw v at c.if-value-least.false))

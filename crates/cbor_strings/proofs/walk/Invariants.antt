@@ -1,10 +1,7 @@
-use Prim.Native.Nat.{◌-◌}
-use lib.ListN.{length}
-use Rattle.cbor_strings.proofs.PathWalks.{Seeing}
+use Rattle.std.proofs.Common.{◌≡◌, drop}
+use Rattle.cbor_strings.specs.Inner.{seen_by}
+use Rattle.cbor_strings.specs.declared.Seen.TheVariants.{Nothing}
 use Rattle.cbor_strings.proofs.walk.Given as goal
 
-abbrev pub invariant-loop-i : goal.invariant-loop-i
-invariant-loop-i l = Seeing l.s l.seen l.so_far l.i
-
-abbrev pub decreases-loop-i : goal.decreases-loop-i
-decreases-loop-i l = length l.s - l.i
+abbrev pub invariant-loop-c : goal.invariant-loop-c
+invariant-loop-c l = seen_by l.seen (drop l.c-index l.s) ≡ seen_by Nothing l.s

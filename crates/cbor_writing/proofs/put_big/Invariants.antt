@@ -3,6 +3,3 @@ use Rattle.cbor_writing.proofs.put_big.Given as goal
 
 abbrev pub invariant-loop-i : goal.invariant-loop-i
 invariant-loop-i l = Put l.k l.n l.initial.room l.room l.v l.i
-
-abbrev pub decreases-loop-i : goal.decreases-loop-i
-decreases-loop-i l = l.i

@@ -1,12 +1,19 @@
-use mathlib.Core.Path.{◌≡◌, ◌∙◌}
-use borrow.Author.Rules.{rules}
-use lib.ListN.{length}
-use Rattle.hash_chunks.proofs.Blocks.{both, parent_run}
+use Rattle.std.proofs.Common.{rules, ◌≡◌, ◌∙◌, ◌++◌, ℕ, List, length, ap, ap₂, w32, []}
+use borrow.Author.Rules.{elem_Fits}
+use Rattle.hash_chunks.specs.Chunks.{words_of}
+use Rattle.hash_chunks.proofs.Blocks.{parent_run}
+use Rattle.hash_chunks.proofs.LowFirst.{words_back}
 use Rattle.hash_chunks.proofs.parent.Goals as goal
 
 pub returns : goal.returns
 returns c =
-    let a : length c.args.a ≡ 8 = search rules in
-    let b : length c.args.b ≡ 8 = search rules in
-    let long : length c.block_bytes-block.result ≡ 64 = search rules in
-    parent_run _ _ _ _ _ _ long (c.block_bytes-block.ensures ∙ both _ _ a b) c.run_parent.ensures
+    let a = c.args.left in
+    let b = c.args.right in
+    let la : length a ≡ 8 = search rules in
+    let lb : length b ≡ 8 = search rules in
+    let f = c.well_formed.1.0 in
+    let g = c.well_formed.1.1.0 in
+    let bytes = c.new.ensures ∙ c.as_flattened.ensures.value ∙ ap₂ (λ (x y : List ℕ). x ++ (y ++ [])) c.bytes.ensures c.bytes-2.ensures in
+    let words = ap (words_of 16) bytes
+    ∙ words_back a b la lb (λ i. (elem_Fits w32 w32 a f.0 i f.1.1 tt).fits) (λ i. (elem_Fits w32 w32 b g.0 i g.1.1 tt).fits) in
+    parent_run c.args.key c.new.result a b _ c.args.root (ap length c.new.ensures ∙ c.as_flattened.ensures.len) words c.run.ensures

@@ -1,11 +1,7 @@
-use Prim.Native.Nat.{◌-◌, ◌+◌}
-use lib.ListN.{length}
-use Rattle.basis.specs.Basis.{pick}
-use Rattle.hash_chunks.proofs.Blocks.{Running}
+use Rattle.std.proofs.Common.{◌≡◌}
+use Rattle.hash_chunks.specs.Chunks.{blocks_of}
+use Rattle.hash_chunks.proofs.Blocks.{run_of}
 use Rattle.hash_chunks.proofs.run.Given as goal
 
-abbrev pub invariant-loop-more : goal.invariant-loop-more
-invariant-loop-more l = Running l.initial.h l.head l.body l.counter l.first l.last l.h l.start l.at l.more
-
-abbrev pub decreases-loop-more : goal.decreases-loop-more
-decreases-loop-more l = length l.head + length l.body - l.at + pick l.more 1 0
+abbrev pub invariant-loop-i : goal.invariant-loop-i
+invariant-loop-i l = run_of l.count l.h l.m l.counter l.first l.last l.i ≡ blocks_of 15 l.initial.h l.m l.counter l.first l.last

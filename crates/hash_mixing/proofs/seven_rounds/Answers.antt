@@ -8,11 +8,11 @@ pub returns : goal.returns
 returns c =
     let m = c.args.m in
     let size : length m ≡ 16 = search rules in
-    last_round _ _ c.columns-c7.ensures c.diagonals.ensures
-    ∙ one_round _ _ c.columns-c6.ensures c.diagonals-v6.ensures 1 (next_picked m size 5 (omega arith))
-    ∙ one_round _ _ c.columns-c5.ensures c.diagonals-v5.ensures 2 (next_picked m size 4 (omega arith))
-    ∙ one_round _ _ c.columns-c4.ensures c.diagonals-v4.ensures 3 (next_picked m size 3 (omega arith))
-    ∙ one_round _ _ c.columns-c3.ensures c.diagonals-v3.ensures 4 (next_picked m size 2 (omega arith))
-    ∙ one_round _ _ c.columns-c2.ensures c.diagonals-v2.ensures 5 (next_picked m size 1 (omega arith))
-    ∙ one_round _ _ c.columns-c1.ensures c.diagonals-v1.ensures 6 (next_picked m size 0 (omega arith))
-    ∙ ap (rounds_of 7 c.args.v) (first_picked m size)
+    last_round _ _ c.round-7.ensures
+    ∙ one_round _ _ 1 c.round-6.ensures (next_picked m size 5 (omega arith))
+    ∙ one_round _ _ 2 c.round-5.ensures (next_picked m size 4 (omega arith))
+    ∙ one_round _ _ 3 c.round-4.ensures (next_picked m size 3 (omega arith))
+    ∙ one_round _ _ 4 c.round-3.ensures (next_picked m size 2 (omega arith))
+    ∙ one_round _ _ 5 c.round-2.ensures (next_picked m size 1 (omega arith))
+    ∙ one_round _ _ 6 c.round.ensures (next_picked m size 0 (omega arith))
+    ∙ ap (rounds_of 7 c.args.v.now) (first_picked m size)

@@ -1,5 +1,11 @@
-use Rattle.outcome.proofs.Carrying.{count_fits}
+use Rattle.outcome.proofs.Carrying.{count_fits, text_carried, none_carried}
 use Rattle.outcome.proofs.write_text.Goals as goal
 
+pub returns-in_default : goal.returns-in_default
+returns-in_default c = none_carried _ _ c.encode.ensures c.in_default.is
+
 pub overflow_cast-result : goal.overflow_cast-result
-overflow_cast-result c = record { fits = count_fits _ _ c.encode.ensures c.requires c.in-Text.is }
+overflow_cast-result c = record { fits = count_fits _ _ c.encode.ensures c.requires c.in-Some.is }
+
+pub returns : goal.returns
+returns c = text_carried _ _ c.encode.ensures c.in-Some.is

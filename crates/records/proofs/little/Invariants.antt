@@ -1,8 +1,7 @@
-use Rattle.records.proofs.Littles.{Summed}
+use Rattle.std.proofs.Common.{◌≡◌, ◌<◌, ◌^◌, length, map, reverse}
+use Rattle.records.specs.Records.{little_of}
 use Rattle.records.proofs.little.Given as goal
 
-abbrev pub invariant-loop-i : goal.invariant-loop-i
-invariant-loop-i l = Summed l.s l.v l.i
-
-abbrev pub decreases-loop-i : goal.decreases-loop-i
-decreases-loop-i l = l.i
+-- the last bytes, as many as were taken
+abbrev pub invariant-loop-b : goal.invariant-loop-b
+invariant-loop-b l = record { sum : l.n ≡ little_of (reverse (map (λ b. b.now) l.yielded)); small : l.n < 256 ^ length l.yielded }

@@ -1,18 +1,21 @@
-use Rattle.records_request.specs.Reading.{digest_next, peer_next, extras_at}
+use Rattle.std.proofs.Common.{rules}
+use Rattle.records_request.specs.Reading.{peer_at, digest_at, rate_at, extras_at}
 use Rattle.records_request.proofs.extras_at.Goals as goal
 
-pub returns-in-Bad : goal.returns-in-Bad
-unfolding digest_next peer_next extras_at
-returns-in-Bad c = rw (← c.in-Bad.ensures)
+pub returns-in_err-rate : goal.returns-in_err-rate
+unfolding extras_at
+returns-in_err-rate c =
+    let s = c.args.s.now in
+    let peer = c.in_ok-peer.ensures (peer_at s c.args.at) (λ answer is. search rules) in
+    let digest = c.in_ok-digest.ensures (digest_at s c.in_ok-peer.p) (λ answer is. search rules) in
+    let rate = c.in_err-rate.ensures (rate_at s c.in_ok-digest.q) (λ answer is. search rules) in
+    rw (← peer, ← digest, ← rate) c.from_residual-in_err-rate.ensures
 
-pub returns-in-Bad-digest_at : goal.returns-in-Bad-digest_at
-unfolding digest_next peer_next extras_at
-returns-in-Bad-digest_at c = rw (← c.in-Of.ensures, ← c.in-Bad-digest_at.ensures)
-
-pub returns-in-Bad-rate_at : goal.returns-in-Bad-rate_at
-unfolding digest_next peer_next extras_at
-returns-in-Bad-rate_at c = rw (← c.in-Of.ensures, ← c.in-Of-digest_at.ensures, ← c.in-Bad-rate_at.ensures)
-
-pub returns-in-Of-rate_at : goal.returns-in-Of-rate_at
-unfolding digest_next peer_next extras_at
-returns-in-Of-rate_at c = rw (← c.in-Of.ensures, ← c.in-Of-digest_at.ensures, ← c.in-Of-rate_at.ensures)
+pub returns : goal.returns
+unfolding extras_at
+returns c =
+    let s = c.args.s.now in
+    let peer = c.in_ok-peer.ensures (peer_at s c.args.at) (λ answer is. search rules) in
+    let digest = c.in_ok-digest.ensures (digest_at s c.in_ok-peer.p) (λ answer is. search rules) in
+    let rate = c.in_ok-rate.ensures (rate_at s c.in_ok-digest.q) (λ answer is. search rules) in
+    rw (← peer, ← digest, ← rate)

@@ -1,28 +1,15 @@
-use Rattle.cbor_strings.specs.declared.Class.TheVariants.{Upper}
-use Rattle.std.proofs.Common.{◌≡◌, sym, ◌∙◌, arith}
-use Rattle.cbor_strings.proofs.RunReads.{found, held}
-use Rattle.rules_compare.specs.Comparing.{member_at}
-use Rattle.rules_compare.proofs.Walks.{no_method, this_method, next_method}
+use Rattle.std.proofs.Common.{◌∙◌, sym}
+use Rattle.rules_compare.proofs.Walks.{no_method, this_method, next_method, none_left}
 use Rattle.rules_compare.proofs.method_in.Goals as goal
 
-pub returns-in-Bad : goal.returns-in-Bad
-returns-in-Bad c = no_method c.loop-k.k _ _ _ c.loop-k-test.true (sym c.read_string.ensures ∙ c.in-Bad.is) ∙ c.loop-k.invariant
+pub returns-in_default : goal.returns-in_default
+returns-in_default c = no_method _ _ _ _ _ c.loop.invariant c.loop-test.true (sym c.read_string.ensures ∙ c.in_default.is)
 
-pub slice_bounds-same-count : goal.slice_bounds-same-count
-slice_bounds-same-count c = (found c.args.s.now c.loop-k.p 3 1 16 (held c.args.s.now c.loop-k.p Upper 1 16 (sym c.read_string.ensures ∙ c.in-Of.is)).run_found).order
+pub returns-then-eq : goal.returns-then-eq
+returns-then-eq c = this_method _ _ _ _ _ c.loop.invariant c.loop-test.true (sym c.read_string.ensures ∙ c.in-Ok.is) (sym c.eq.ensures ∙ c.if-eq.true)
 
-pub slice_bounds-same-start : goal.slice_bounds-same-start
-slice_bounds-same-start c = (found c.args.s.now c.loop-k.p 3 1 16 (held c.args.s.now c.loop-k.p Upper 1 16 (sym c.read_string.ensures ∙ c.in-Of.is)).run_found).order
-
-pub slice_bounds-same-end : goal.slice_bounds-same-end
-slice_bounds-same-end c = (found c.args.s.now c.loop-k.p 3 1 16 (held c.args.s.now c.loop-k.p Upper 1 16 (sym c.read_string.ensures ∙ c.in-Of.is)).run_found).inside
-
-pub returns-then-same : goal.returns-then-same
-returns-then-same c = this_method c.loop-k.k _ _ _ c.loop-k-test.true (sym c.read_string.ensures ∙ c.in-Of.is) (sym c.same.ensures ∙ c.if-same.true) ∙ c.loop-k.invariant
-
-pub loop-k-preserved : goal.loop-k-preserved
-loop-k-preserved c = next_method c.loop-k.k _ _ _ c.loop-k-test.true (sym c.read_string.ensures ∙ c.in-Of.is) (sym c.same.ensures ∙ c.if-same.false) ∙ c.loop-k.invariant
+pub loop-preserved : goal.loop-preserved
+loop-preserved c = next_method _ _ _ _ _ c.loop.invariant c.loop-test.true (sym c.read_string.ensures ∙ c.in-Ok.is) (sym c.eq.ensures ∙ c.if-eq.false)
 
 pub returns : goal.returns
-unfolding member_at
-returns c = let z : c.loop-k.k ≡ 0 = omega arith in rw z (rw z at c.loop-k.invariant)
+returns c = none_left _ _ _ _ _ c.loop.invariant c.loop-test.false

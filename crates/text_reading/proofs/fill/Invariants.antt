@@ -1,10 +1,7 @@
-use Prim.Native.Nat.{◌-◌}
-use lib.ListN.{length}
-use Rattle.text_reading.proofs.Filling.{Sofar}
+use Rattle.std.proofs.Common.{◌≡◌, ◌*◌, take}
+use Rattle.basis.specs.Basis.{over}
+use Rattle.text_reading.specs.Reading.{bytes_of}
 use Rattle.text_reading.proofs.fill.Given as goal
 
-abbrev pub invariant-loop-j : goal.invariant-loop-j
-invariant-loop-j l = Sofar l.text l.initial.room l.room l.i l.j
-
-abbrev pub decreases-loop-j : goal.decreases-loop-j
-decreases-loop-j l = length l.text - l.j
+abbrev pub invariant-loop-k : goal.invariant-loop-k
+invariant-loop-k l = l.room ≡ over (bytes_of (take (l.k * 4) l.text)) l.fn.room

@@ -1,10 +1,7 @@
-use Prim.Native.Nat.{◌-◌}
-use lib.ListN.{length}
-use Rattle.text_writing.proofs.Writings.{Sofar}
+use Rattle.std.proofs.Common.{◌≡◌, ◌*◌, take}
+use Rattle.basis.specs.Basis.{over}
+use Rattle.text_writing.specs.Base64url.{base64url}
 use Rattle.text_writing.proofs.write.Given as goal
 
-abbrev pub invariant-loop-j : goal.invariant-loop-j
-invariant-loop-j l = Sofar l.bytes l.initial.room l.room l.i l.j
-
-abbrev pub decreases-loop-j : goal.decreases-loop-j
-decreases-loop-j l = length l.bytes - l.j
+abbrev pub invariant-loop-k : goal.invariant-loop-k
+invariant-loop-k l = l.room ≡ over (base64url (take (l.k * 3) l.bytes)) l.fn.room

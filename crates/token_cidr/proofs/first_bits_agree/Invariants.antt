@@ -1,10 +1,7 @@
-use Prim.Native.Nat.{◌-◌}
-use lib.ListN.{length}
+use Rattle.std.specs.Iterator.Adapters.{zip_first, zip_second}
+use Rattle.std.specs.Slice.Iter.{iter_rest}
 use Rattle.token_cidr.proofs.Comparing.{Compared}
 use Rattle.token_cidr.proofs.first_bits_agree.Given as goal
 
-abbrev pub invariant-loop-i : goal.invariant-loop-i
-invariant-loop-i l = Compared l.x l.y l.n l.i l.left
-
-abbrev pub decreases-loop-i : goal.decreases-loop-i
-decreases-loop-i l = length l.x - l.i
+abbrev pub invariant-loop-a : goal.invariant-loop-a
+invariant-loop-a l = Compared l.x l.y l.n (iter_rest (zip_first l.a-iterator)) (iter_rest (zip_second l.a-iterator)) l.left
