@@ -36,7 +36,8 @@ fn put_line(room: &mut [u8], at: usize, answer: Answer) -> usize
     cbor_writing::put_at(room, p, b"\n")
 }
 
-// The lines of an input of at most 65,536 bytes.
+// The lines of an input of at most 65,536 bytes. The loop goes from the end of one record to that of the next, so there
+// is no index to count and no slice of records to go through.
 fn walk(input: &[u8], room: &mut [u8]) -> usize
     requires { (length input.now ≤ bundle_most) × (enough ≤ length room.old) }
     ensures { Placed (lines_from records_most input.now [] [] 0) room.old 0 result room.new }
