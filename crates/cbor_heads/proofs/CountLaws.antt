@@ -4,7 +4,7 @@ use mathlib.Core.Bool.{Bool, true, false}
 use mathlib.Core.List.{List, ◌++◌}
 use Prim.Native.Nat.{ℕ, ◌+◌, ◌^◌, ◌≤◌, ◌<◌}
 use native.Mathlib.Omega.{arith}
-use borrow.Author.Tests.{lt-ltb, le-ltb, eq-eqb, ne_eqb, ltb-false, eqb-true}
+use borrow.Author.Tests.{le-ltb, eq-eqb, ltb-false, eqb-true}
 use lib.Dec.{ltb, eqb}
 use lib.ListN.{length, drop}
 use lib.Seq.{drop-drop}
@@ -12,11 +12,10 @@ use Rattle.basis.specs.Basis.{pick, IsBytes}
 use Rattle.basis.proofs.Pairs.{ok_pair}
 use Rattle.cbor_heads.specs.Heads.{head}
 use Rattle.cbor_heads.specs.Reading.{got, head_at, read_head}
-use Rattle.cbor_heads.specs.Counts.{count_by, read_count}
+use Rattle.cbor_heads.specs.Counts.{count_by, read_count, by_number, count_numbered}
 use Rattle.cbor_heads.specs.declared.Head.{Head}
 use Rattle.cbor_heads.specs.declared.defect.Kind.{Kind}
-use Rattle.cbor_heads.specs.declared.defect.Kind.TheVariants.{Cbor}
-use Rattle.cbor_heads.specs.declared.defect.Defect.{Defect}
+use Rattle.cbor_heads.specs.declared.defect.Kind.TheVariants.{Cbor, Bounds}
 use Rattle.cbor_heads.specs.Defects.{Reading, bad, after}
 use Rattle.std.specs.Prelude.{Ok, Err}
 use Rattle.cbor_heads.proofs.HeadLaws.{read_written, written_read}
@@ -66,3 +65,18 @@ module _ (s : List ℕ) (at major least most : ℕ) (above : Kind) where
       by : (r : Reading Head) → read_head s at ≡ r → after (count_by at major least most above) r ≡ Ok (n, next) → Counted s at major least most n next
       by (Err d) q e = let z : ◌≡◌ {A = ℕ} 0 1 = cc in let z : ⊥ = omega arith in elim z [ ]
       by (Ok h) q e = counted_by q _ refl _ refl _ refl e
+
+-- the same both ways for a caller's own number, whatever it is
+module _ (s : List ℕ) (at major least most above : ℕ) where
+  pub numbered_count : {m n next : ℕ} → read_head s at ≡ Ok (got m n next) → m ≡ major → least ≤ n → n ≤ most → Ok (n, next) ≡ count_numbered s at major least most above
+  numbered_count e h l g = ap (by_number above) (count s at major least most Bounds e h l g)
+
+  pub numbered_counted : {n next : ℕ} → count_numbered s at major least most above ≡ Ok (n, next) → Counted s at major least most n next
+  numbered_counted {n} {next} = by (read_count s at major least most Bounds) refl
+    where
+      by : (r : Reading (ℕ × ℕ)) → read_count s at major least most Bounds ≡ r → by_number above r ≡ Ok (n, next) → Counted s at major least most n next
+      by (Err d) q e = let z : ◌≡◌ {A = ℕ} 0 1 = cc in let z : ⊥ = omega arith in elim z [ ]
+      by (Ok (k, to)) q e =
+          let x : k ≡ n = (ok_pair e).0 in
+          let y : to ≡ next = (ok_pair e).1 in
+          counted s at major least most Bounds (rw (← x, ← y) q)

@@ -7,6 +7,7 @@ use Rattle.answers.specs.declared.Answer.TheVariants.{ParseCbor, ParseBounds, Sc
 use Rattle.cbor_heads.specs.declared.defect.Kind.{Kind}
 use Rattle.cbor_heads.specs.declared.defect.Kind.TheVariants.{Cbor, Bounds, Unknown}
 use Rattle.cbor_heads.specs.declared.defect.Defect.{Defect}
+use Rattle.cbor_heads.specs.declared.defect.NumberedDefect.{NumberedDefect}
 
 -- what a reading gives: what was read, or the first defect
 abbrev pub Reading : Type 0 → Type 0
@@ -37,3 +38,12 @@ kind_answer Unknown = SchemaUnknownField
 -- 4, 5 and 6
 abbrev pub kind_number : Kind → ℕ
 kind_number kind = number_of (kind_answer kind)
+
+-- as a caller with numbers of its own is told it: too many by its number, any other defect by document 01's
+abbrev pub number_by : ℕ → Kind → ℕ
+number_by above Cbor = kind_number Cbor
+number_by above Bounds = above
+number_by above Unknown = kind_number Unknown
+
+abbrev pub numbered : ℕ → Defect → NumberedDefect
+numbered above d = record { number = number_by above d.kind; at = d.at }

@@ -2,7 +2,7 @@
 // at fault. A reading gives what it read, or the first defect.
 
 ghost use Rattle.std.specs.Prelude.{◌≡◌};
-ghost use Rattle.cbor_heads.specs.Defects.{kind_answer};
+ghost use Rattle.cbor_heads.specs.Defects.{kind_answer, numbered};
 
 use answers::Answer;
 
@@ -20,6 +20,13 @@ pub struct Defect {
 }
 
 pub type Reading<T> = Result<T, Defect>;
+
+// A defect as a caller with numbers of its own is told it.
+#[derive(Clone, Copy, Debug, PartialEq, Eq)]
+pub struct NumberedDefect {
+    pub number: u32,
+    pub at: usize,
+}
 
 impl From<Kind> for Answer {
     ghost from_gives = { λ kind answer. answer ≡ kind_answer kind };
@@ -39,5 +46,19 @@ impl From<Defect> for Answer {
 
     fn from(defect: Defect) -> Answer {
         defect.kind.into()
+    }
+}
+
+// Too large a count has the caller's number, any other defect document 01's.
+pub fn numbered(defect: Defect, above: u32) -> NumberedDefect
+    ensures { result ≡ numbered above defect }
+{
+    let number = match defect.kind {
+        Kind::Bounds => above,
+        kind => Answer::from(kind).into(),
+    };
+    NumberedDefect {
+        number,
+        at: defect.at,
     }
 }

@@ -1,15 +1,15 @@
 // Heads of deterministic CBOR in their shortest form, and the numbers and counts that they give. A reader takes a
-// slice of any length and a place in it; a defect carries document 01's number and the place of the item at fault.
+// slice of any length and a place in it; a defect carries its kind and the place of the item at fault.
 #![tactic(auto)]
 
 ghost use Rattle.std.specs.Prelude.{◌≡◌, ◌<◌, ◌≤◌, length};
 ghost use Rattle.cbor_heads.specs.Reading.{big_of, width_of, read_head};
-ghost use Rattle.cbor_heads.specs.Counts.{read_count, map_with, array_up_to, number_up_to};
+ghost use Rattle.cbor_heads.specs.Counts.{read_count, count_numbered, map_with, array_up_to, number_up_to};
 
 pub mod defect;
 pub mod major;
 
-use defect::{Defect, Kind, Reading};
+use defect::{Defect, Kind, NumberedDefect, Reading};
 
 // How many bytes follow a head's first one, and the least number that they may hold.
 #[derive(Clone, Copy)]
@@ -135,6 +135,24 @@ pub fn read_count(
         return Err(Defect { kind: above, at });
     }
     Ok((n, next))
+}
+
+// The same for a caller with numbers of its own: `above` is any number, which is handed back where the count is too
+// large.
+pub fn count_numbered(
+    s: &[u8],
+    at: usize,
+    major: u8,
+    least: u64,
+    most: u64,
+    above: u32,
+) -> Result<(u64, usize), NumberedDefect>
+    ensures { result ≡ count_numbered s.now at major least most above }
+{
+    match read_count(s, at, major, least, most, Kind::Bounds) {
+        Ok(found) => Ok(found),
+        Err(defect) => Err(defect::numbered(defect, above)),
+    }
 }
 
 // The count of a map that requires so many keys and knows so many.

@@ -1,4 +1,5 @@
 pub mod Printable
+pub mod Groups
 pub mod PathWalks
 pub mod PathJudged
 pub mod PathLaws

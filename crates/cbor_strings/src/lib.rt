@@ -150,6 +150,33 @@ fn path_is(s: &[u8]) -> bool
     walk(rest).is_some_and(Seen::may_end)
 }
 
+// No way out of sixteen, so that the compiler takes them at once: `all` needs 237 instructions for 87.
+fn hex_group(group: &[u8; 16]) -> bool
+    ensures { result ≡ list_all is_hex group.now }
+{
+    group.iter().fold(true, |all, &c| all & is_hex(c))
+}
+
+fn hex_groups(groups: &[[u8; 16]]) -> bool
+    ensures { result ≡ list_all (λ g. list_all is_hex g) groups.now }
+{
+    groups.iter().all(hex_group)
+}
+
+fn hex_each(s: &[u8]) -> bool
+    ensures { result ≡ list_all is_hex s.now }
+{
+    s.iter().all(|&c| is_hex(c))
+}
+
+// Sixteen at a time as far as all are digits, so that what stands behind a wrong one costs nothing.
+fn all_hex(s: &[u8]) -> bool
+    ensures { result ≡ list_all is_hex s.now }
+{
+    let (groups, rest) = s.as_chunks::<16>();
+    hex_groups(groups) && hex_each(rest)
+}
+
 #[tactic(auto, unfolding(crate::specs::Strings::content_of, crate::specs::Strings::is_upper))]
 pub fn content_is(s: &[u8], class: Class) -> bool
     ensures { result ≡ content_of class s.now }
@@ -159,8 +186,7 @@ pub fn content_is(s: &[u8], class: Class) -> bool
         Class::Printable => all_printable(s),
         Class::Path => path_is(s),
         Class::Upper => s.iter().all(|c| c.is_ascii_uppercase()),
-        // No way out before the end, so that the compiler takes many: `all` needs 237 instructions for 87 at 16 bytes.
-        Class::Hex => s.iter().fold(true, |all, &c| all & is_hex(c)),
+        Class::Hex => all_hex(s),
     }
 }
 

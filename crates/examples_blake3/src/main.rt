@@ -2,6 +2,8 @@
 // and the 32 bytes in hex. tools/vectors makes the expected lines with the official b3sum.
 #![tactic(auto)]
 
+use std::fmt;
+
 // The published lengths up to 8,192, and the first that is refused.
 const LENGTHS: [u16; 32] = [
     0, 1, 2, 3, 4, 5, 6, 7, 8, 63, 64, 65, 127, 128, 129, 1023, 1024, 1025, 2048, 2049, 3072, 3073,
@@ -17,13 +19,22 @@ fn input() -> [u8; 8193] {
     m
 }
 
+// In hex, two digits a byte: a line is put together before it is written, since each `print!` writes by itself.
+#[derive(Clone, Copy)]
+struct Hex([u8; 32]);
+
+impl fmt::Display for Hex {
+    fn fmt<W: fmt::Write>(&self, f: &mut fmt::Formatter<W>) -> fmt::Result {
+        for b in self.0 {
+            write!(f, "{b:02x}")?;
+        }
+        Ok(())
+    }
+}
+
 fn print_vector(rt: &impl Print, message: &[u8]) {
     let r = keyed_hash::keyed_hash(b"whats the Elvish word for friend", message);
-    let _ = print!(rt; "{} {} ", message.len(), r.answer);
-    for b in r.bytes {
-        let _ = print!(rt; "{b:02x}");
-    }
-    let _ = println!(rt;);
+    let _ = println!(rt; "{} {} {}", message.len(), r.answer, Hex(r.bytes));
 }
 
 fn main(rt: HostRuntime) {

@@ -1,12 +1,13 @@
 -- Words and their bytes, the low one first: std's conversions are the definitions', and the words of a word's bytes are the word again.
-use Rattle.std.proofs.Common.{◌≡◌, ℕ, zero, suc, ◌+◌, ◌*◌, ◌/◌, ◌%◌, ◌<◌, List, [], ◌∷◌, ◌++◌, length, get_or, take, drop, refl, ap, ◌∙◌, arith, ap₂, map, div-one}
+use Rattle.std.proofs.Common.{◌≡◌, sym, ℕ, zero, suc, ◌+◌, ◌*◌, ◌/◌, ◌%◌, ◌<◌, List, [], ◌∷◌, ◌++◌, length, get_or, take, drop, refl, ap, ◌∙◌, arith, ap₂, map, div-one, append_assoc}
 use Rattle.std.proofs.lemmas.List.{get_or-take, get_or-drop, drop-drop}
 use Rattle.std.specs.Int.{w32, from_le_bytes, to_le_bytes}
 use Rattle.std.specs.Simd.{first_chunks}
 use Rattle.std.specs.List.{flat_map}
+use Rattle.std.proofs.lemmas.List.Concat.{flat_map-append}
 use Rattle.basis.specs.Basis.{tab}
 use Rattle.basis.specs.Tabs.{tab_all}
-use Rattle.hash_chunks.specs.Chunks.{le32, words_of, bytes_of_words}
+use Rattle.hash_chunks.specs.Chunks.{le32, words_of, byte_of, bytes_of_words}
 
 -- the chunk i of n elements
 chunk_at : (n k i : ℕ) (s : List ℕ) → i < k → get_or (first_chunks n k s) i [] ≡ take n (drop (i * n) s)
@@ -46,12 +47,33 @@ mapped f (x ∷ w) [] l h = absurd (omega arith)
 mapped f (x ∷ w) (y ∷ q) l h =
     ap₂ (λ (a : List ℕ) (b : List (List ℕ)). a ∷ b) (h 0 (omega arith)) (mapped f w q (omega arith) (λ i g. h (suc i) (omega arith)))
 
+-- words laid down as bytes, over any number of them: each is its four bytes
+pub four_bytes : (n : ℕ) (f : ℕ → ℕ) → flat_map (to_le_bytes w32) (tab n f) ≡ tab (n * 4) (λ i. byte_of (f (i / 4)) (i % 4))
+unfolding tab
+four_bytes zero f = refl
+four_bytes (suc n) f =
+    let rule : ℕ → ℕ = λ i. byte_of (f (i / 4)) (i % 4) in
+    let at : (i k : ℕ) → i ≡ n * 4 + k → k < 4 → rule i ≡ byte_of (f n) k = λ i k e h.
+        let q : i / 4 ≡ n = omega arith in
+        let r : i % 4 ≡ k = omega arith in
+        rw (q, r) in
+    let four : suc n * 4 ≡ suc (suc (suc (suc (n * 4)))) = omega arith in
+    let quad : tab (suc (suc (suc (suc (n * 4))))) rule ≡ tab (n * 4) rule ++ (byte_of (f n) 0 ∷ byte_of (f n) 1 ∷ byte_of (f n) 2 ∷ byte_of (f n) 3 ∷ []) =
+    rw (at (n * 4) 0 (omega arith) (omega arith), at (suc (n * 4)) 1 (omega arith) (omega arith), at (suc (suc (n * 4))) 2 (omega arith) (omega arith), at (suc (suc (suc (n * 4)))) 3 (omega arith) (omega arith)) (simp append_assoc) in
+    rw (flat_map-append (to_le_bytes w32) (tab n f) (f n ∷ []), four_bytes n f, four, quad) (simp div-one)
+
+joined : (f : ℕ → List ℕ) (w : List ℕ) → flat_map (λ x. x) (map f w) ≡ flat_map f w
+joined f [] = refl
+joined f (x ∷ w) = ap (λ (l : List ℕ). f x ++ l) (joined f w)
+
 -- eight words, each as four bytes, are the 32 bytes of the words
 pub flat : (w : List ℕ) (q : List (List ℕ)) → length w ≡ 8 → length q ≡ 8 → ((i : ℕ) → i < 8 → get_or q i [] ≡ to_le_bytes w32 (get_or w i 0))
     → flat_map (λ x. x) q ≡ bytes_of_words w
-unfolding tab
 flat w q size long h =
-    rw (mapped (to_le_bytes w32) w q (omega arith) (λ i g. h i (omega arith)), ← tab_all 8 w size) (simp div-one)
+    ap (flat_map (λ x. x)) (mapped (to_le_bytes w32) w q (omega arith) (λ i g. h i (omega arith)))
+    ∙ joined (to_le_bytes w32) w
+    ∙ ap (flat_map (to_le_bytes w32)) (sym (tab_all 8 w size))
+    ∙ four_bytes 8 (λ i. get_or w i 0)
 
 -- the words of the bytes of eight words and eight more are those words
 pub words_back : (a b : List ℕ) → length a ≡ 8 → length b ≡ 8 → ((i : ℕ) → get_or a i 0 < 4294967296) → ((i : ℕ) → get_or b i 0 < 4294967296)

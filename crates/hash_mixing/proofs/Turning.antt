@@ -1,26 +1,11 @@
--- std's turn of a word to the right is document 01's.
-use Rattle.std.proofs.Common.{◌≡◌, ℕ, ◌+◌, ◌-◌, ◌*◌, ◌/◌, ◌%◌, ◌^◌, ◌<◌, ◌∙◌, add_comm, add-zero, arith, shr_lt}
-use Rattle.std.proofs.lemmas.Nat.{mod-pow-add, shl-shr}
-use Rattle.std.proofs.Math.Nat.{mul-mod_left}
-use Rattle.std.specs.Int.{w32, rotate_right}
-use Rattle.std.specs.Int.Bits.{bit_xor, or_shifted_r, xor_lt}
-use Rattle.hash_mixing.specs.Compression.{turn}
+-- A word turned right, from shifts, a mask and xor: once over the number of places n and the rest k of the word.
+use Rattle.std.proofs.Common.{◌≡◌, ℕ, ◌+◌, ◌-◌, ◌*◌, ◌/◌, ◌%◌, ◌^◌, ◌<◌, ap, ◌∙◌, le_refl, mod-lt, add_comm, pow_pos, shl_exact, shr_lt}
+use lib.Bits.{bit_and, bit_xor, and_mask, xor_shifted, xor_comm}
 
--- the bits that leave at the top are lost, and no others
-shifted : (x n k w : ℕ) → n + k ≡ w → (x * 2 ^ k) % 2 ^ w ≡ x % 2 ^ n * 2 ^ k
-shifted x n k w e = rw (← e, mod-pow-add (x * 2 ^ k) n k, shl-shr, mul-mod_left) (add-zero (x % 2 ^ n * 2 ^ k))
-
-turned : (x n : ℕ) → 0 < n → n < 32 → x < 2 ^ 32 → rotate_right w32 x n ≡ turn n x
-unfolding turn
-turned x n z h g =
-    let low : n % 32 ≡ n = omega arith in
-    let high : (32 - n) % 32 ≡ 32 - n = omega arith in
-    let whole : n + (32 - n) ≡ 32 = omega arith in
-    let rest : (32 - n) + n ≡ 32 = omega arith in
-    let apart : x / 2 ^ n < 2 ^ (32 - n) = shr_lt (32 - n) n (rw rest g) in
-    rw (low, high, shifted x n (32 - n) 32 whole)
-    (or_shifted_r (x % 2 ^ n) (32 - n) (x / 2 ^ n) apart ∙ add_comm (x % 2 ^ n * 2 ^ (32 - n)) (x / 2 ^ n))
-
--- as the mixing asks for it: of the xor of two words
-pub turned_xor : (x y n : ℕ) → 0 < n → n < 32 → x < 2 ^ 32 → y < 2 ^ 32 → rotate_right w32 (bit_xor x y) n ≡ turn n (bit_xor x y)
-turned_xor x y n z h f g = turned (bit_xor x y) n z h (xor_lt 32 x y f g)
+pub turned : (x n k w : ℕ) → n + k ≡ w → x < 2 ^ (k + n)
+    → bit_xor (x / 2 ^ n) (bit_and x (2 ^ n - 1) * 2 ^ k % 2 ^ w) ≡ x / 2 ^ n + x % 2 ^ n * 2 ^ k
+turned x n k w e h =
+    ap (bit_xor (x / 2 ^ n)) (rw (and_mask, ← e) (shl_exact n k (n + k) (mod-lt x (pow_pos n)) (le_refl (n + k))))
+    ∙ xor_comm (x / 2 ^ n) (x % 2 ^ n * 2 ^ k)
+    ∙ xor_shifted (x % 2 ^ n) k (x / 2 ^ n) (shr_lt k n h)
+    ∙ add_comm (x % 2 ^ n * 2 ^ k) (x / 2 ^ n)

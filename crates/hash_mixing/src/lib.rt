@@ -3,7 +3,7 @@
 #![tactic(auto)]
 
 ghost use Rattle.std.specs.Prelude.{◌≡◌, ◌<◌};
-ghost use Rattle.hash_mixing.specs.Compression.{half_of, round_of, rounds_of, compress_of};
+ghost use Rattle.hash_mixing.specs.Compression.{turn, half_of, round_of, rounds_of, compress_of};
 ghost use Rattle.hash_mixing.specs.Order.{InBlock, picked_of, mixed_of};
 
 // Four words of the state on their way through the mixing.
@@ -15,16 +15,24 @@ struct Quad {
     d: u32,
 }
 
+// From shifts, a mask and xor: document 01's form of the turn, in place of std's `rotate_right`.
+fn turn_right(x: u32, n: u32) -> u32
+    requires { (0 < n) × (n < 32) }
+    ensures { result ≡ turn n x }
+{
+    (x >> n) ^ ((x & ((1 << n) - 1)) << (32 - n))
+}
+
 impl Quad {
-    #[tactic(auto, using(crate::proofs::Turning::turned_xor), unfolding(crate::specs::Compression::half_of))]
+    #[tactic(auto, unfolding(crate::specs::Compression::half_of))]
     fn half(self, x: u32, n: u32, k: u32) -> Quad
         requires { (0 < n) × (n < 32) × (0 < k) × (k < 32) }
         ensures { result ≡ half_of self x n k }
     {
         let a = self.a.wrapping_add(self.b).wrapping_add(x);
-        let d = (self.d ^ a).rotate_right(n);
+        let d = turn_right(self.d ^ a, n);
         let c = self.c.wrapping_add(d);
-        let b = (self.b ^ c).rotate_right(k);
+        let b = turn_right(self.b ^ c, k);
         Quad { a, b, c, d }
     }
 }

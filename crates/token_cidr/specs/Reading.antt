@@ -55,6 +55,10 @@ zeros_past address size = eqb (from_be_bytes w32 address % 2 ^ (cidr_most - size
 abbrev pub net_of : Prefix → Network
 net_of p = record { address = p.a ∷ p.b ∷ p.c ∷ p.d ∷ []; size = p.size }
 
+-- of any four numbers, of each its lowest eight bits
+abbrev pub network_of : ℕ → ℕ → ℕ → ℕ → ℕ → Network
+network_of a b c d size = record { address = a % 256 ∷ b % 256 ∷ c % 256 ∷ d % 256 ∷ []; size = size }
+
 -- a.b.c.d/n; 46 is ".", 47 is "/"
 unfoldable pub cidr_of : List ℕ → Option Network
 cidr_of s = do

@@ -5,7 +5,7 @@
 ghost use Rattle.std.specs.Prelude.{◌≡◌, ◌≤◌, ◌<◌, IfSome, length};
 ghost use Rattle.basis.specs.Limits.{cidr_most};
 ghost use Rattle.token_cidr.specs.Bits.{agree_of};
-ghost use Rattle.token_cidr.specs.Reading.{digit_at, decimal_at, part_at, size_at, zeros_past, cidr_of};
+ghost use Rattle.token_cidr.specs.Reading.{network_of, digit_at, decimal_at, part_at, size_at, zeros_past, cidr_of};
 
 use basis::limits;
 
@@ -14,6 +14,23 @@ use basis::limits;
 pub struct Network {
     pub address: [u8; 4],
     pub size: u32,
+}
+
+impl Network {
+    // Of four numbers, of each its lowest eight bits.
+    pub fn of(a: u32, b: u32, c: u32, d: u32, size: u32) -> Network
+        ensures { result ≡ network_of a b c d size }
+    {
+        Network {
+            address: [
+                (a % 256) as u8,
+                (b % 256) as u8,
+                (c % 256) as u8,
+                (d % 256) as u8,
+            ],
+            size,
+        }
+    }
 }
 
 // The digit at a place, where there is one.

@@ -21,9 +21,9 @@ use token_caveat_values::CaveatAt;
 
 // The last link, and the answer of the first caveat that fails.
 #[derive(Clone, Copy)]
-struct Walked {
-    link: [u8; 32],
-    answer: Answer,
+pub struct Walked {
+    pub link: [u8; 32],
+    pub answer: Answer,
 }
 
 // A caveat is hashed as it lies, from its first byte on: no code writes it anew.
