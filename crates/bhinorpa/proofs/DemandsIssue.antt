@@ -13,7 +13,7 @@ use Rattle.outcome.specs.Decisions.{Decision, answer_for, Carried}
 use Rattle.outcome.specs.declared.Outcome.{Outcome}
 use Rattle.issue.specs.Issuing.{issue_of}
 use Rattle.issue.proofs.Fresh.{known_named}
-use Rattle.outcome.proofs.OneAnswer.{outcome_one_answer}
+use Rattle.issue.proofs.OneAnswer.{issue_one_answer}
 use Rattle.bhinorpa.specs.Allowed.{EncodesTable, token_text, caveat_bytes, chain_tag}
 use Rattle.bhinorpa.specs.NewTokens.{EncodesScope, Grant, fresh_token, Issued}
 use Rattle.bhinorpa.specs.Verdicts.{out_short, done, IssueVerdict, issue_table_bad, issue_scope_bad, issue_kid_unknown, issue_grants, one_of, issue_answers}
@@ -58,7 +58,7 @@ module _ (table tid kid bytes : List ℕ) (bt : IsBytes table) (entry : List ℕ
 
 pub issue_verdict_one : IssueVerdictOne
 issue_verdict_one table tid kid bytes bt entry first second left right v w =
-    outcome_one_answer (issue_of table tid kid bytes) entry (verdict_is table tid kid bytes bt entry first left v) (verdict_is table tid kid bytes bt entry second right w)
+    issue_one_answer table tid kid bytes entry (verdict_is table tid kid bytes bt entry first left v) (verdict_is table tid kid bytes bt entry second right w)
 
 pub issue_list : IssueList
 unfolding all one_of

@@ -18,7 +18,7 @@ use Rattle.records_table.specs.Tables.{Row, has_row}
 use Rattle.outcome.specs.Decisions.{Decision, refused, granted, answer_for, Carried}
 use Rattle.outcome.specs.declared.Outcome.{Outcome}
 use Rattle.narrow.specs.Narrowing.{narrow_of}
-use Rattle.outcome.proofs.OneAnswer.{outcome_one_answer}
+use Rattle.narrow.proofs.OneAnswer.{narrow_one_answer}
 use Rattle.bhinorpa.specs.Allowed.{EncodesTable, token_text, Canonical, chain_tag, key_for}
 use Rattle.bhinorpa.specs.NewTokens.{EncodesCaveat, Parent, child_token}
 use Rattle.bhinorpa.specs.Verdicts.{RoomVerdict, out_short, done, NarrowVerdict, narrow_table_bad, narrow_no_token, narrow_kid_unknown, narrow_mac, narrow_caveat_bad, narrow_full, narrow_size_full, narrow_child, one_of, narrow_answers}
@@ -106,7 +106,7 @@ module _ (table text bytes : List ℕ) (bt : IsBytes table) (entry : List ℕ) (
 
 pub narrow_verdict_one : NarrowVerdictOne
 narrow_verdict_one table text bytes bt entry first second left right v w =
-    outcome_one_answer (narrow_of table text bytes) entry (verdict_is table text bytes bt entry first left v) (verdict_is table text bytes bt entry second right w)
+    narrow_one_answer table text bytes entry (verdict_is table text bytes bt entry first left v) (verdict_is table text bytes bt entry second right w)
 
 pub narrow_list : NarrowList
 unfolding all one_of

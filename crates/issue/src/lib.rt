@@ -2,7 +2,7 @@
 // only what is handed out whole.
 #![tactic(auto)]
 
-ghost use Rattle.outcome.specs.Decisions.{Carried, outcome_of};
+ghost use Rattle.outcome.specs.Decisions.{Carried, Refusing, outcome_of};
 ghost use Rattle.issue.specs.Issuing.{issue_with, issue_of};
 ghost use Rattle.issue.specs.Inner.{Issuable};
 
@@ -19,7 +19,8 @@ fn issue_with(
     room: &mut [u8],
 ) -> Result<u32, Answer>
     requires { Issuable key.now tid.now kid.now scope.now }
-    ensures { Carried (issue_with key.now tid.now kid.now scope.now) room.old (outcome_of result) room.new }
+    ensures carried { Carried (issue_with key.now tid.now kid.now scope.now) room.old (outcome_of result) room.new }
+    ensures refusing { Refusing result }
 {
     if key.len() != limits::KEY_LENGTH {
         return Err(Answer::KidUnknown);
@@ -44,7 +45,8 @@ pub fn issue(
     scope: &[u8],
     room: &mut [u8],
 ) -> Result<u32, Answer>
-    ensures { Carried (issue_of table.now tid.now kid.now scope.now) room.old (outcome_of result) room.new }
+    ensures carried { Carried (issue_of table.now tid.now kid.now scope.now) room.old (outcome_of result) room.new }
+    ensures refusing { Refusing result }
 {
     if !records_table::table_ok(table) {
         return Err(Answer::TableBad);

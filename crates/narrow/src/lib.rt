@@ -5,7 +5,7 @@
 ghost use Rattle.std.specs.Prelude.{◌≤◌, length};
 ghost use Rattle.basis.specs.Limits.{token_most};
 ghost use Rattle.verify_walk.specs.Ready.{Ready};
-ghost use Rattle.outcome.specs.Decisions.{Carried, outcome_of};
+ghost use Rattle.outcome.specs.Decisions.{Carried, Refusing, outcome_of};
 ghost use Rattle.narrow.specs.Narrowing.{tag_narrowed, bytes_narrowed, text_narrowed, narrow_of};
 
 use answers::Answer;
@@ -21,7 +21,8 @@ fn narrow_with(
     room: &mut [u8],
 ) -> Result<u32, Answer>
     requires { Ready key.now s.now parent }
-    ensures { Carried (tag_narrowed key.now s.now parent caveat.now) room.old (outcome_of result) room.new }
+    ensures carried { Carried (tag_narrowed key.now s.now parent caveat.now) room.old (outcome_of result) room.new }
+    ensures refusing { Refusing result }
 {
     let caveats = parent.caveats;
     let tag = parent.tag;
@@ -35,7 +36,8 @@ fn narrow_with(
 
 fn narrow_bytes(table: &[u8], s: &[u8], caveat: &[u8], room: &mut [u8]) -> Result<u32, Answer>
     requires { length s.now ≤ token_most }
-    ensures { Carried (bytes_narrowed table.now s.now caveat.now) room.old (outcome_of result) room.new }
+    ensures carried { Carried (bytes_narrowed table.now s.now caveat.now) room.old (outcome_of result) room.new }
+    ensures refusing { Refusing result }
 {
     let token = token::read_token(s)?;
     let tid = token.tid;
@@ -48,7 +50,8 @@ fn narrow_bytes(table: &[u8], s: &[u8], caveat: &[u8], room: &mut [u8]) -> Resul
 }
 
 fn narrow_text(table: &[u8], text: &[u8], caveat: &[u8], room: &mut [u8]) -> Result<u32, Answer>
-    ensures { Carried (text_narrowed table.now text.now caveat.now) room.old (outcome_of result) room.new }
+    ensures carried { Carried (text_narrowed table.now text.now caveat.now) room.old (outcome_of result) room.new }
+    ensures refusing { Refusing result }
 {
     if limits::TEXT_MOST < text.len() {
         return Err(Answer::ParseBounds);
@@ -60,7 +63,8 @@ fn narrow_text(table: &[u8], text: &[u8], caveat: &[u8], room: &mut [u8]) -> Res
 
 // The length of the child's text at the front of the room, or the answer of the first check that fails.
 pub fn narrow(table: &[u8], token: &[u8], caveat: &[u8], room: &mut [u8]) -> Result<u32, Answer>
-    ensures { Carried (narrow_of table.now token.now caveat.now) room.old (outcome_of result) room.new }
+    ensures carried { Carried (narrow_of table.now token.now caveat.now) room.old (outcome_of result) room.new }
+    ensures refusing { Refusing result }
 {
     if !records_table::table_ok(table) {
         return Err(Answer::TableBad);

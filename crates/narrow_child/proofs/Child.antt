@@ -2,15 +2,13 @@
 use Rattle.std.specs.Prelude.{Option, None, Ok, Err}
 use Rattle.cbor_heads.specs.Defects.{kind_number}
 use Rattle.cbor_heads.specs.declared.defect.Defect.{Defect}
-use mathlib.Core.Path.{◌≡◌, refl, ap, ◌∙◌}
-use mathlib.Core.Bool.{Bool, true, false}
+use mathlib.Core.Path.{◌≡◌, ap, ◌∙◌}
 use mathlib.Core.List.{List, ◌++◌}
 use Prim.Native.Nat.{ℕ, ◌+◌, ◌≤◌, ◌<◌}
 use native.Mathlib.Omega.{arith}
-use borrow.Author.Tests.{eq-eqb, ne_eqb, le-leb, lt-leb, lt-ltb, le-ltb, leb-true, leb-false}
-use lib.Dec.{leb}
+use borrow.Author.Tests.{eq-eqb, ne_eqb, le-leb, lt-leb, lt-ltb, le-ltb}
 use lib.ListN.{length, length-append}
-use Rattle.basis.specs.Basis.{pick, between, Written}
+use Rattle.basis.specs.Basis.{between, Written}
 use Rattle.text_writing.specs.Base64url.{base64url}
 use Rattle.hash_chain.specs.Chain.{next_link}
 use Rattle.hash_chain.specs.Inner.{NextOf}

@@ -7,7 +7,7 @@ ghost use Rattle.answers.specs.Answers.{number_of};
 ghost use Rattle.cbor_heads.specs.Defects.{kind_number};
 ghost use Rattle.basis.specs.Limits.{key_length};
 ghost use Rattle.token_caveat.specs.Reading.{caveat_of};
-ghost use Rattle.outcome.specs.Decisions.{Carried, outcome_of};
+ghost use Rattle.outcome.specs.Decisions.{Carried, Refusing, outcome_of};
 ghost use Rattle.narrow_child.specs.Child.{child_of, caveat_added};
 
 use answers::Answer;
@@ -27,7 +27,8 @@ fn write_child(
     room: &mut [u8],
 ) -> Result<u32, Answer>
     requires { length key.now ≡ key_length }
-    ensures { Carried (child_of key.now link s.now parent caveat.now) room.old (outcome_of result) room.new }
+    ensures carried { Carried (child_of key.now link s.now parent caveat.now) room.old (outcome_of result) room.new }
+    ensures refusing { Refusing result }
 {
     let count = parent.caveats.count;
     let span = parent.caveats.span;
@@ -76,7 +77,8 @@ pub fn add_caveat(
     room: &mut [u8],
 ) -> Result<u32, Answer>
     requires { length key.now ≡ key_length }
-    ensures { Carried (caveat_added key.now link s.now parent caveat.now (caveat_of caveat.now)) room.old (outcome_of result) room.new }
+    ensures carried { Carried (caveat_added key.now link s.now parent caveat.now (caveat_of caveat.now)) room.old (outcome_of result) room.new }
+    ensures refusing { Refusing result }
 {
     match token_caveat::read_caveat(caveat) {
         Err(defect) => Err(added(defect.kind)),

@@ -1,6 +1,6 @@
 -- Meaning. What is handed out, and what the room holds then. Document 01: "Done returns the text's length; the rest of the room stays.
 -- Every refusal by these three returns 0 bytes and writes nothing."
-use Rattle.std.specs.Prelude.{◌≡◌, List, ℕ, leb, length, Result, Ok, Err}
+use Rattle.std.specs.Prelude.{◌≡◌, ◌<◌, List, ℕ, leb, length, Result, Ok, Err, IfErr}
 use Rattle.answers.specs.Answers.{number_of}
 use Rattle.answers.specs.declared.Answer.{Answer}
 use Rattle.basis.specs.Basis.{pick, over}
@@ -32,6 +32,10 @@ refusal n = record { answer = n; length = 0 }
 abbrev pub outcome_of : Result ℕ Answer → Outcome
 outcome_of (Ok n) = record { answer = 0; length = n }
 outcome_of (Err a) = refusal (number_of a)
+
+-- a refusal is no allow, so that an outcome tells which of the two it was
+abbrev pub Refusing : Result ℕ Answer → Type 0
+Refusing made = IfErr made (λ answer. 0 < number_of answer)
 
 pub record Carried (h : Decision) (entry : List ℕ) (r : Outcome) (exit : List ℕ) : Type 0 where
   pub answer : r.answer ≡ answer_for h (length entry)

@@ -5,7 +5,7 @@
 ghost use Rattle.std.specs.Prelude.{◌≡◌, ◌≤◌, length};
 ghost use Rattle.basis.specs.Limits.{token_most};
 ghost use Rattle.text_writing.specs.Base64url.{base64url};
-ghost use Rattle.outcome.specs.Decisions.{Carried, granted, outcome_of};
+ghost use Rattle.outcome.specs.Decisions.{Carried, Refusing, granted, outcome_of};
 
 use answers::Answer;
 
@@ -34,7 +34,8 @@ impl From<Result<u32, Answer>> for Outcome {
 // The text of a token's bytes, if the room holds it: its length.
 pub fn write_text(bytes: &[u8], room: &mut [u8]) -> Result<u32, Answer>
     requires { length bytes.now ≤ token_most }
-    ensures { Carried (granted (base64url bytes.now)) room.old (outcome_of result) room.new }
+    ensures carried { Carried (granted (base64url bytes.now)) room.old (outcome_of result) room.new }
+    ensures refusing { Refusing result }
 {
     let Some(n) = text_writing::encode(bytes, room) else {
         return Err(Answer::OutShort);
