@@ -16,7 +16,7 @@ struct Quad {
 }
 
 impl Quad {
-    #[tactic(auto, using(crate::proofs::Turning::turned_xor), unfolding(crate::specs::Compression::half_of))]
+    #[tactic(auto, using(crate::proofs::Turning::turned_xor, crate::proofs::Turning::shifts_xor), unfolding(crate::specs::Compression::half_of))]
     fn half(self, x: u32, n: u32, k: u32) -> Quad
         requires { (0 < n) × (n < 32) × (0 < k) × (k < 32) }
         ensures { result ≡ half_of self x n k }
