@@ -55,8 +55,10 @@ fn asks(n: u8, low: u8, high: u8) -> Option<Due>
 fn lead_of(c: u8) -> Option<Due>
     ensures { result ≡ lead_of c }
 {
+    if c.is_ascii() {
+        return asks(0, 0x80, 0xbf);
+    }
     match c {
-        0x00..=0x7f => asks(0, 0x80, 0xbf),
         0xc2..=0xdf => asks(1, 0x80, 0xbf),
         0xe0 => asks(2, 0xa0, 0xbf),
         0xe1..=0xec => asks(2, 0x80, 0xbf),

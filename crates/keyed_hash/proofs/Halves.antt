@@ -3,7 +3,7 @@
 use mathlib.Core.Path.{◌≡◌, refl, sym, ap, ap₂, ◌∙◌}
 use mathlib.Core.Bool.{Bool, true, false}
 use mathlib.Core.List.{List}
-use Prim.Native.Nat.{ℕ, zero, suc, ◌+◌, ◌-◌, ◌*◌, ◌^◌, ◌%◌, ◌≤◌, ◌<◌}
+use Prim.Native.Nat.{ℕ, zero, suc, ◌+◌, ◌-◌, ◌*◌, ◌^◌, ◌≤◌, ◌<◌}
 use native.Mathlib.Nat.{pow-suc, sub-zero}
 use native.Mathlib.Omega.{arith}
 use borrow.Author.Tests.{le-leb, lt-leb, leb-true, leb-false}
@@ -14,7 +14,6 @@ use lib.Seq.{take_all}
 use Rattle.hash_chunks.specs.Chunks.{chunk_of, parent_of}
 use Rattle.keyed_hash.specs.Tree.{full_of, tree_of}
 use Rattle.keyed_hash.specs.Fits.{Fit}
-use Rattle.std.proofs.lemmas.Nat.{one_shl}
 
 module _ (key s : List ℕ) (counter root : ℕ) where
   -- a taller tree than is needed is the same tree
@@ -66,39 +65,31 @@ split_at key s counter root (suc h) z g =
     rw e (sym (split key s counter root h (rw e at g)))
 
 -- what the recursion hands on, where there is more than one chunk: c is half as many chunks as the tree may have
-module _ (h n counter root c : ℕ) (f : Fit h n counter root) (g : 1024 < n) (e : c ≡ 1 * 2 ^ (h - 1) % 2 ^ 64) where
+module _ (h n counter root c : ℕ) (f : Fit h n counter root) (g : 1024 < n) (e : c ≡ 2 ^ (h - 1)) where
   pub not_flat : h ≡ 0 → ⊥
   not_flat z = let b : n ≤ 1024 = rw z at f.bytes in omega arith
-
-  half : c ≡ 2 ^ (h - 1)
-  half = let l : h - 1 < 64 = omega (arith, f.low) in e ∙ one_shl (h - 1) 64 l
 
   pub fit_left : (m root' : ℕ) → m ≤ c * 1024 → root' ≤ 8 → Fit (h - 1) m counter root'
   fit_left m root' l r =
       let d = double h not_flat in
-      let p = half in
       record { low = omega (arith, f.low); bytes = omega arith; number = omega (arith, f.number); flag = r }
 
   pub fit_right : (m : ℕ) → m ≤ n - c * 1024 → Fit (h - 1) m (counter + c) 0
   fit_right m l =
       let d = double h not_flat in
-      let p = half in
       record { low = omega (arith, f.low); bytes = omega (arith, f.bytes); number = omega (arith, f.number); flag = omega arith }
 
-module _ (key s : List ℕ) (counter root h c : ℕ) (f : Fit h (length s) counter root) (g : 1024 < length s) (e : c ≡ 1 * 2 ^ (h - 1) % 2 ^ 64) where
+module _ (key s : List ℕ) (counter root h c : ℕ) (f : Fit h (length s) counter root) (g : 1024 < length s) (e : c ≡ 2 ^ (h - 1)) where
   pub whole : {r : List ℕ} → length s ≤ c * 1024 → r ≡ tree_of key (h - 1) s counter root → r ≡ tree_of key h s counter root
-  whole l q =
-      let p = half h (length s) counter root c f g e in
-      q ∙ any_height key s counter root (h - 1) h (omega arith) (omega (arith, f.bytes))
+  whole l q = q ∙ any_height key s counter root (h - 1) h (omega arith) (omega (arith, f.bytes))
 
   pub halves : (n : ℕ) {front back left right r : List ℕ} → n ≡ length s → c * 1024 < n → front ≡ take (c * 1024 - 0) s
       → back ≡ take (n - c * 1024) (drop (c * 1024) s) → left ≡ tree_of key (h - 1) front counter 0
       → right ≡ tree_of key (h - 1) back (counter + c) 0 → r ≡ parent_of key left right root → r ≡ tree_of key h s counter root
   halves n {front} {back} {left} {right} en l a b x y z =
-      let p = half h (length s) counter root c f g e in
       let m : c * 1024 ≡ full_of (h - 1) = omega arith in
       let first : front ≡ take (full_of (h - 1)) s = rw (sub-zero, m) at a in
       let others : back ≡ drop (full_of (h - 1)) s =
       b ∙ take_all (n - c * 1024) (drop (c * 1024) s) (simp length-drop (omega arith)) ∙ ap (λ (i : ℕ). drop i s) m in
-      z ∙ ap₂ (λ (u v : List ℕ). parent_of key u v root) (rw first at x) (rw (others, p) at y)
+      z ∙ ap₂ (λ (u v : List ℕ). parent_of key u v root) (rw first at x) (rw (others, e) at y)
       ∙ split_at key s counter root h (not_flat h (length s) counter root c f g e) (omega arith)

@@ -1,13 +1,13 @@
 -- From the tests on key and length to the whole answer; eight chunks are as tall a tree as any message that is taken needs. No crate
 -- above can name this module: its law `taken` says how the hash is made.
 use mathlib.Core.Path.{◌≡◌, sym, ap, ◌∙◌}
-use mathlib.Core.List.{List}
+use mathlib.Core.List.{List, ◌++◌}
 use Prim.Native.Nat.{ℕ, zero, suc, ◌*◌, ◌^◌, ◌≤◌, ◌<◌}
 use native.Mathlib.Nat.{pow-suc}
 use native.Mathlib.Omega.{arith}
 use borrow.Author.Tests.{eq-eqb, ne_eqb, lt-ltb, le-ltb}
 use lib.Pow.{pow_pos}
-use lib.ListN.{length}
+use lib.ListN.{length, length-append}
 use Rattle.answers.specs.Answers.{number_of}
 use Rattle.answers.specs.declared.Answer.TheVariants.{Allow}
 use Rattle.keyed_hash.specs.declared.Hashed.{Hashed}
@@ -25,6 +25,10 @@ bad_key key message h = rw (ne_eqb (length key) 32 h)
 pub too_long : (key message : List ℕ) → length key ≡ 32 → 8192 < length message → refused_hash ≡ hashed_of key message
 unfolding hashed_of
 too_long key message h g = rw (eq-eqb (length key) 32 h, lt-ltb _ _ g)
+
+-- of a head that alone is too long. The code asks no such thing; the edit head_of_8192 does, and so is refused for its number
+pub long_head : (key head body : List ℕ) → length key ≡ 32 → 8192 < length head → refused_hash ≡ hashed_of key (head ++ body)
+long_head key head body h g = too_long key (head ++ body) h (rw length-append (omega (arith, g)))
 
 enough : (n : ℕ) → n ≤ 2 ^ n
 enough zero = omega arith

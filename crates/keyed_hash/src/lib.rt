@@ -2,7 +2,7 @@
 // behind the words that go before it. The parts are cut, lent and compressed, and never joined.
 #![tactic(auto)]
 
-ghost use Rattle.std.specs.Prelude.{◌≡◌, ◌++◌, ◌≤◌, length};
+ghost use Rattle.std.specs.Prelude.{◌≡◌, ◌++◌, ◌<◌, ◌≤◌, ◌^◌, length};
 ghost use Rattle.hash_chunks.specs.Chunks.{root_flag};
 ghost use Rattle.keyed_hash.specs.Tree.{tree_of};
 ghost use Rattle.keyed_hash.specs.KeyedHash.{hashed_of, refused_hash};
@@ -29,6 +29,14 @@ enum Inside {
     Here,
 }
 
+// 2^h chunks.
+fn chunks(h: u32) -> usize
+    requires { h < 3 }
+    ensures { result ≡ 2 ^ h }
+{
+    1 << h
+}
+
 // The tree over at most 2^h chunks, the first of which has the number `counter`.
 #[tactic(auto, using(crate::proofs::Halves::one_chunk))]
 fn tree(key: [u32; 8], m: Message, counter: u64, h: u32, root: u32) -> [u32; 8]
@@ -40,7 +48,7 @@ fn tree(key: [u32; 8], m: Message, counter: u64, h: u32, root: u32) -> [u32; 8]
         return hash_chunks::chunk(key, m, counter, root);
     }
     let k = h - 1;
-    let c = 1usize << k;
+    let c = chunks(k);
     let l = c * 1024;
     if n <= l {
         return tree(key, m, counter, k, root);
@@ -73,7 +81,7 @@ fn refused() -> Hashed
 }
 
 // The keyed hash of head and body as one message.
-#[tactic(auto, using(crate::proofs::Hashing::bad_key, crate::proofs::Hashing::too_long))]
+#[tactic(auto, using(crate::proofs::Hashing::bad_key, crate::proofs::Hashing::too_long, crate::proofs::Hashing::long_head))]
 pub fn keyed_hash_joined(key: &[u8], head: &[u8], body: &[u8]) -> Hashed
     ensures { result ≡ hashed_of key.now (head.now ++ body.now) }
 {

@@ -1,11 +1,14 @@
 use Rattle.std.proofs.Common.{rules, ◌≡◌, ◌∙◌, ◌++◌, ℕ, List, length, ap, ap₂, w32, []}
 use borrow.Author.Rules.{elem_Fits}
+use Rattle.basis.specs.Basis.{tab}
 use Rattle.hash_chunks.specs.Chunks.{words_of}
 use Rattle.hash_chunks.proofs.Blocks.{parent_run}
 use Rattle.hash_chunks.proofs.LowFirst.{words_back}
 use Rattle.hash_chunks.proofs.parent.Goals as goal
 
+-- word by word (`unfolding tab`), so that a child laid anew from its own words is that child
 pub returns : goal.returns
+unfolding tab
 returns c =
     let a = c.args.left in
     let b = c.args.right in
