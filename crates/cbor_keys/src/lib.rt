@@ -1,5 +1,5 @@
 // The keys of each map and the names of t: read as text of any length, found among the names of their
-// place, and told by their index there. A defect carries document 01's number and the place.
+// place, and told by their index there. A defect carries its kind and the place.
 #![tactic(auto)]
 
 ghost use Rattle.std.specs.Prelude.{◌≡◌};

@@ -1,5 +1,5 @@
 // Strings of deterministic CBOR, by their range and class of content. A reader takes a slice of any length and a
-// place in it; a defect carries document 01's number and the place of the item at fault.
+// place in it; a defect carries its kind and the place of the item at fault.
 #![tactic(auto)]
 
 ghost use Rattle.std.specs.Prelude.{◌≡◌, not};

@@ -51,6 +51,8 @@ fn asks(n: u8, low: u8, high: u8) -> Option<Due>
     Some(Due { n, low, high })
 }
 
+// Those that come most are asked for first: as one `match` a text of ASCII takes twice the time, one of two bytes a
+// character half as much again.
 #[tactic(auto, unfolding(crate::specs::Utf8::lead_of))]
 fn lead_of(c: u8) -> Option<Due>
     ensures { result ≡ lead_of c }
@@ -58,10 +60,19 @@ fn lead_of(c: u8) -> Option<Due>
     if c.is_ascii() {
         return asks(0, 0x80, 0xbf);
     }
+    if c < 0xc2 {
+        return None;
+    }
+    if c < 0xe0 {
+        return asks(1, 0x80, 0xbf);
+    }
+    if c == 0xe0 {
+        return asks(2, 0xa0, 0xbf);
+    }
+    if c < 0xed {
+        return asks(2, 0x80, 0xbf);
+    }
     match c {
-        0xc2..=0xdf => asks(1, 0x80, 0xbf),
-        0xe0 => asks(2, 0xa0, 0xbf),
-        0xe1..=0xec => asks(2, 0x80, 0xbf),
         0xed => asks(2, 0x80, 0x9f),
         0xee..=0xef => asks(2, 0x80, 0xbf),
         0xf0 => asks(3, 0x90, 0xbf),

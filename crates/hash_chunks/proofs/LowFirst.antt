@@ -54,9 +54,9 @@ four_bytes zero f = refl
 four_bytes (suc n) f =
     let rule : ℕ → ℕ = λ i. byte_of (f (i / 4)) (i % 4) in
     let at : (i k : ℕ) → i ≡ n * 4 + k → k < 4 → rule i ≡ byte_of (f n) k = λ i k e h.
-        let q : i / 4 ≡ n = omega arith in
-        let r : i % 4 ≡ k = omega arith in
-        rw (q, r) in
+    let q : i / 4 ≡ n = omega arith in
+    let r : i % 4 ≡ k = omega arith in
+    rw (q, r) in
     let four : suc n * 4 ≡ suc (suc (suc (suc (n * 4)))) = omega arith in
     let quad : tab (suc (suc (suc (suc (n * 4))))) rule ≡ tab (n * 4) rule ++ (byte_of (f n) 0 ∷ byte_of (f n) 1 ∷ byte_of (f n) 2 ∷ byte_of (f n) 3 ∷ []) =
     rw (at (n * 4) 0 (omega arith) (omega arith), at (suc (n * 4)) 1 (omega arith) (omega arith), at (suc (suc (n * 4))) 2 (omega arith) (omega arith), at (suc (suc (suc (n * 4)))) 3 (omega arith) (omega arith)) (simp append_assoc) in

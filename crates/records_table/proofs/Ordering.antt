@@ -17,7 +17,7 @@ use Rattle.records_table.specs.Order.{before_of, ascends}
 abbrev compared : Bool → Bool → Ordering
 compared before same = pick before Less (pick same Equal Greater)
 
-strings : (x y : List ℕ) → slice_cmp nat_cmp x y ≡ compared (before_of x y) (same_of x y)
+pub strings : (x y : List ℕ) → slice_cmp nat_cmp x y ≡ compared (before_of x y) (same_of x y)
 unfolding before_of
 strings [] [] = refl
 strings [] (b ∷ t) = refl

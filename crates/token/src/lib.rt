@@ -1,5 +1,5 @@
 // Tokens: what they are, how they are written and how they are read. A token is read whole from its first
-// byte to its last; each caveat is read where it lies. A defect carries document 01's number and the place
+// byte to its last; each caveat is read where it lies. A defect carries its kind and the place
 // of the item at fault.
 #![tactic(auto)]
 

@@ -1,4 +1,4 @@
-// The back of a token: tag, version, kid and tid, and nothing behind them. A defect carries document 01's number and
+// The back of a token: tag, version, kid and tid, and nothing behind them. A defect carries its kind and
 // the place of the item at fault.
 #![tactic(auto)]
 

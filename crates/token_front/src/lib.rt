@@ -1,5 +1,5 @@
-// The front of a token: the map's head, the caveats where they lie, and the scope. A defect carries document 01's
-// number and the place of the item at fault.
+// The front of a token: the map's head, the caveats where they lie, and the scope. A defect carries its kind
+// and the place of the item at fault.
 #![tactic(auto)]
 
 ghost use Rattle.std.specs.Prelude.{◌≡◌, drop};
