@@ -65,7 +65,8 @@ pub fn text_at(s: &[u8], at: usize, width: u8, class: Class, low: u64, high: u64
         return None;
     }
     let span = run_at(s, next, n)?;
-    if cbor_strings::content_is(basis::lend(s, span), class) {
+    let Span { from, to } = span;
+    if cbor_strings::content_is(&s[from..to], class) {
         return Some(span);
     }
     None
