@@ -2,7 +2,7 @@
 use mathlib.Core.Path.{◌≡◌, refl}
 use mathlib.Core.Bool.{Bool, true, false}
 use mathlib.Core.List.{List, [], ◌∷◌}
-use Prim.Native.Nat.{ℕ, ◌<◌}
+use Prim.Native.Nat.{ℕ, ◌≤◌, ◌<◌}
 use native.Mathlib.Omega.{arith}
 use borrow.Author.Tests.{eqb-true}
 use lib.Dec.{eqb}
@@ -22,6 +22,20 @@ table_is c h = eqb-true (get_or DIGITS c 0) (digit_of c) (all_at 256 (λ c. eqb 
 pub digit_letter : (v : ℕ) → v < 64 → digit_of (letter_of v) ≡ v
 unfolding all digit_of letter_of index_of index_after
 digit_letter v h = eqb-true (digit_of (letter_of v)) v (all_at 64 (λ v. eqb (digit_of (letter_of v)) v) refl v h)
+
+index_le : (c : ℕ) (s : List ℕ) → index_of c s ≤ length s
+unfolding index_of index_after
+index_le c [] = omega arith
+index_le c (x ∷ s) = by (eqb x c) (index_le c s)
+  where
+    by : (b : Bool) → index_of c s ≤ length s → index_after b (index_of c s) ≤ length (x ∷ s)
+    by true h = omega arith
+    by false h = omega arith
+
+-- no character has more than 64
+pub digit_le : (c : ℕ) → digit_of c ≤ 64
+unfolding digit_of
+digit_le c = index_le c alphabet
 
 index_back : (c : ℕ) (s : List ℕ) → index_of c s < length s → get_or s (index_of c s) 0 ≡ c
 unfolding index_of index_after
