@@ -51,8 +51,8 @@ fn asks(n: u8, low: u8, high: u8) -> Option<Due>
     Some(Due { n, low, high })
 }
 
-// Those that come most are asked for first: as one `match` a text of ASCII takes twice the time, one of two bytes a
-// character half as much again.
+// Those that come most are asked for first: as one `match` a text of ASCII takes two thirds more time, and one of two
+// bytes a character half as much again.
 #[tactic(auto, unfolding(crate::specs::Utf8::lead_of))]
 fn lead_of(c: u8) -> Option<Due>
     ensures { result ≡ lead_of c }

@@ -1,3 +1,4 @@
 pub mod Blocks
 pub mod LowFirst
+pub mod FourBytes
 pub mod OneAnswer

@@ -48,10 +48,10 @@ mapped f (x ∷ w) (y ∷ q) l h =
     ap₂ (λ (a : List ℕ) (b : List (List ℕ)). a ∷ b) (h 0 (omega arith)) (mapped f w q (omega arith) (λ i g. h (suc i) (omega arith)))
 
 -- words laid down as bytes, over any number of them: each is its four bytes
-pub four_bytes : (n : ℕ) (f : ℕ → ℕ) → flat_map (to_le_bytes w32) (tab n f) ≡ tab (n * 4) (λ i. byte_of (f (i / 4)) (i % 4))
+pub words_laid : (n : ℕ) (f : ℕ → ℕ) → flat_map (to_le_bytes w32) (tab n f) ≡ tab (n * 4) (λ i. byte_of (f (i / 4)) (i % 4))
 unfolding tab
-four_bytes zero f = refl
-four_bytes (suc n) f =
+words_laid zero f = refl
+words_laid (suc n) f =
     let rule : ℕ → ℕ = λ i. byte_of (f (i / 4)) (i % 4) in
     let at : (i k : ℕ) → i ≡ n * 4 + k → k < 4 → rule i ≡ byte_of (f n) k = λ i k e h.
     let q : i / 4 ≡ n = omega arith in
@@ -60,7 +60,7 @@ four_bytes (suc n) f =
     let four : suc n * 4 ≡ suc (suc (suc (suc (n * 4)))) = omega arith in
     let quad : tab (suc (suc (suc (suc (n * 4))))) rule ≡ tab (n * 4) rule ++ (byte_of (f n) 0 ∷ byte_of (f n) 1 ∷ byte_of (f n) 2 ∷ byte_of (f n) 3 ∷ []) =
     rw (at (n * 4) 0 (omega arith) (omega arith), at (suc (n * 4)) 1 (omega arith) (omega arith), at (suc (suc (n * 4))) 2 (omega arith) (omega arith), at (suc (suc (suc (n * 4)))) 3 (omega arith) (omega arith)) (simp append_assoc) in
-    rw (flat_map-append (to_le_bytes w32) (tab n f) (f n ∷ []), four_bytes n f, four, quad) (simp div-one)
+    rw (flat_map-append (to_le_bytes w32) (tab n f) (f n ∷ []), words_laid n f, four, quad) (simp div-one)
 
 joined : (f : ℕ → List ℕ) (w : List ℕ) → flat_map (λ x. x) (map f w) ≡ flat_map f w
 joined f [] = refl
@@ -73,7 +73,7 @@ flat w q size long h =
     ap (flat_map (λ x. x)) (mapped (to_le_bytes w32) w q (omega arith) (λ i g. h i (omega arith)))
     ∙ joined (to_le_bytes w32) w
     ∙ ap (flat_map (to_le_bytes w32)) (sym (tab_all 8 w size))
-    ∙ four_bytes 8 (λ i. get_or w i 0)
+    ∙ words_laid 8 (λ i. get_or w i 0)
 
 -- the words of the bytes of eight words and eight more are those words
 pub words_back : (a b : List ℕ) → length a ≡ 8 → length b ≡ 8 → ((i : ℕ) → get_or a i 0 < 4294967296) → ((i : ℕ) → get_or b i 0 < 4294967296)
