@@ -185,8 +185,8 @@ static inline const char *bhinorpa_name(uint32_t answer)
 /* How many bytes of stack to have free for a call, its arguments and all that it calls included. These are
  * measured and rounded up, not proved: host/stack/stack.c, which tools/check-c runs, calls each function on
  * a stack filled with one byte, with the longest, the deepest and the most of everything, and looks how far
- * down that byte was overwritten. On x86-64 these were 6,712 bytes for verify, 2,056 for issue, 10,600 for
- * narrow and 1,944 for the hash. What is not the library's comes on top: an interrupt that runs on the same
+ * down that byte was overwritten. On x86-64 these were 7,144 bytes for verify, 1,784 for issue, 11,048 for
+ * narrow and 2,280 for the hash. What is not the library's comes on top: an interrupt that runs on the same
  * stack, and a loader that looks for memcpy at its first call only. */
 #define BHINORPA_VERIFY_STACK 8192
 #define BHINORPA_ISSUE_STACK 3072
